@@ -1,6 +1,7 @@
 //! An export that is written while it is read.
 
 ghost use Rattle.std.specs.Prelude.{◌≡◌, []};
+ghost use Rattle.web_http.specs.Written.{writer_page};
 ghost use Rattle.app_csv.specs.Handing.{HandsOn, IsReady, gathered};
 
 use crate::positions::Lines;
@@ -36,8 +37,7 @@ impl<'a, W: Drain> CsvSink<'a, W> {
         ensures ready { IsReady self.new.lines.now }
         ensures empty { gathered self.new.lines.now ≡ [] }
         ensures handed { HandsOn result (gathered self.old.lines.now)
-            (record { taken = W.taken self.old.out.now; failures = W.failures self.old.out.now })
-            (record { taken = W.taken self.new.out.now; failures = W.failures self.new.out.now }) }
+            (writer_page W.Drain self.old.out.now) (writer_page W.Drain self.new.out.now) }
     {
         match self.lines.take(alloc) {
             Ok(text) => match write_all(self.out, text.as_slice()) {
@@ -51,19 +51,18 @@ impl<'a, W: Drain> CsvSink<'a, W> {
 
 impl<W: Drain> Sink for CsvSink<'_, W> {
     ghost use Rattle.std.specs.Prelude.{◌≡◌, ◌++◌};
+    ghost use Rattle.web_http.specs.Written.{writer_page};
     ghost use Rattle.app_csv.specs.Handing.{Goes, IsReady, Stops, gathered};
     ghost use Rattle.app_csv.specs.PositionLines.{row_line};
 
     ghost takes = { λ old row new. (new.out.ghost_name ≡ old.out.ghost_name)
         × (IsReady old.lines.now → IsReady new.lines.now
         × Goes (row_line row) (gathered old.lines.now) (gathered new.lines.now)
-        (record { taken = W.taken old.out.now; failures = W.failures old.out.now })
-        (record { taken = W.taken new.out.now; failures = W.failures new.out.now })) };
+        (writer_page W.Drain old.out.now) (writer_page W.Drain new.out.now)) };
 
     ghost refuses = { λ old row fault new. (new.out.ghost_name ≡ old.out.ghost_name)
         × (IsReady old.lines.now → Stops fault (gathered old.lines.now ++ row_line row)
-        (record { taken = W.taken old.out.now; failures = W.failures old.out.now })
-        (record { taken = W.taken new.out.now; failures = W.failures new.out.now })) };
+        (writer_page W.Drain old.out.now) (writer_page W.Drain new.out.now)) };
 
     fn row(&mut self, alloc: Global, row: &ExportRow) -> Result<(), SinkFault> {
         match self.lines.add(alloc, row) {

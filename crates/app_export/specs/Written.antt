@@ -1,5 +1,7 @@
 -- What was written of an export.
 use Rattle.std.specs.Prelude.{◌≡◌, List, ℕ, ◌++◌, Result, Ok, Err, IfErr}
+use Rattle.sqlite_trees.specs.declared.store.Store.{Ghosts}
+use Rattle.sqlite.specs.Held.{Held, state}
 use Rattle.sqlite.specs.State.{State as Connected, Survives}
 use Rattle.base_devices.specs.Told.{Adds}
 use Rattle.web_http.specs.Written.{Page}
@@ -24,3 +26,7 @@ pub record Exports (old new : Connected) (text : List ℕ) (before after : Page)
   pub cause : OfFitTables old new (IfErr outcome IsOfMachine)
   pub rests : Rests old new
   pub crash : Survives old new (λ _. ⊥)
+
+-- some text was written so, by what a connection showed before and after
+abbrev pub ExportsText : {S : Type 0} → Ghosts S → Held S → Held S → Page → Page → Result (Unit {0}) RunFault → Type 0
+ExportsText g old new before after outcome = (text : List ℕ) × Exports (state g old) (state g new) text before after outcome

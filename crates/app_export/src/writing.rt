@@ -1,12 +1,11 @@
 //! The order positions of a file, written as CSV while they are read.
 
-ghost use Rattle.std.specs.Prelude.{◌≡◌, false, ℕ, List};
-ghost use Rattle.sqlite.specs.Held.{state};
+ghost use Rattle.std.specs.Prelude.{◌≡◌, false};
 ghost use Rattle.app_csv.specs.Handing.{IsReady, gathered};
 ghost use Rattle.app_csv.specs.PositionLines.{header_line};
 ghost use Rattle.app_export.specs.Faults.{fault_of_walk};
-ghost use Rattle.app_export.specs.Written.{Exports};
-ghost use Rattle.web_http.specs.Written.{writer_page};
+ghost use Rattle.app_export.specs.Written.{ExportsText};
+ghost use Rattle.web_cli.specs.Saying.{OnPage};
 
 use crate::positions::{Walk, WalkError, stream_positions};
 use app_csv::{CsvSink, Lines};
@@ -45,9 +44,8 @@ fn write_into<S: Alter, W: Drain, P: Progress>(
     requires ready { IsReady walk.old.sink.lines.now }
     requires names { gathered walk.old.sink.lines.now ≡ header_line }
     ensures same { walk.new.sink.out.ghost_name ≡ walk.old.sink.out.ghost_name }
-    ensures exported { (text : List ℕ) × Exports (state S.Store connection.old)
-        (state S.Store connection.new) text (writer_page W.Drain walk.old.sink.out.now)
-        (writer_page W.Drain walk.new.sink.out.now) result }
+    ensures exported { OnPage W.Drain (ExportsText S.Store connection.old connection.new)
+        walk.old.sink.out.now walk.new.sink.out.now result }
 {
     if let Err(error) = stream_positions(alloc, connection, walk, progress) {
         return Err(fault_of_walk(error));
@@ -66,10 +64,8 @@ fn write_outside<S: Alter, W: Drain, P: Progress>(
     progress: &mut P,
 ) -> Result<(), RunFault>
     requires { connection.old.in_transaction ≡ false }
-    ensures { (text : List ℕ) × Exports (state S.Store connection.old)
-        (state S.Store connection.new) text
-        (writer_page W.Drain writer.old)
-        (writer_page W.Drain writer.new) result }
+    ensures { OnPage W.Drain (ExportsText S.Store connection.old connection.new)
+        writer.old writer.new result }
 {
     let Ok(mut lines) = Lines::new(alloc) else {
         return Err(RunFault::Memory);
@@ -89,10 +85,8 @@ pub fn write_positions<S: Alter, W: Drain, P: Progress>(
     writer: &mut W,
     progress: &mut P,
 ) -> Result<(), RunFault>
-    ensures { (text : List ℕ) × Exports (state S.Store connection.old)
-        (state S.Store connection.new) text
-        (writer_page W.Drain writer.old)
-        (writer_page W.Drain writer.new) result }
+    ensures { OnPage W.Drain (ExportsText S.Store connection.old connection.new)
+        writer.old writer.new result }
 {
     if !connection.is_autocommit() {
         return Err(RunFault::Store);

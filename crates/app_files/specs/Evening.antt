@@ -13,11 +13,15 @@ use Rattle.app_files.specs.Served.{OpensAs}
 abbrev pub over : {T : Type 0} → T → DeskView T → DeskView T
 over tables desk = desk_with tables desk.organizer desk.event desk.state
 
+-- a desk is running in the words of this house, as this shop
+abbrev pub IsRunningAs : {T : Type 0} → Meaning T → House → DeskView T → Running → Type 0
+IsRunningAs tables house desk r = IsRunning (words_of house) tables.holds tables.may_leave desk.tables desk.state r
+
 -- A desk of this house is running, as these events left the shop that had begun so. What they were told, they were told in the house's words.
 pub record RunsSo {T : Type 0} (tables : Meaning T) (house : House) (begun : Running) (events : List Event) (desk : DeskView T) (r : Running) : Type 0 where
   pub of : IsOf tables house desk
   pub happened : Happens (words_of house) begun events r
-  pub running : IsRunning (words_of house) tables.holds tables.may_leave desk.tables desk.state r
+  pub running : IsRunningAs tables house desk r
 
 -- What was left so is found again by a new connection, after a crash or because a command has ended; and it is opened as this desk, over a
 -- disk that returned what was written.

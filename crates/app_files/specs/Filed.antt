@@ -1,5 +1,5 @@
 -- What a shop's database holds after a command.
-use Rattle.std.specs.Prelude.{◌≡◌, ◌⊎◌, ℕ, List, None, Result, Err, IfOk, IfErr, OnOk, OnErr, IsTrue, map}
+use Rattle.std.specs.Prelude.{◌≡◌, ◌⊎◌, ℕ, List, Some, None, Result, Err, IfOk, IfErr, OnOk, OnErr, IsTrue, map}
 use Rattle.sqlite_trees.specs.declared.store.Store.{Ghosts}
 use Rattle.sqlite_trees.specs.Tree.{Trees}
 use Rattle.sqlite.specs.Effect.{Database}
@@ -8,7 +8,8 @@ use Rattle.sqlite.specs.State.{State as Connected, HasCleanDisk, Survives}
 use Rattle.sqlite.specs.declared.connection.Connection.{Connection}
 use Rattle.file_schema.specs.Blank.{blank_schema}
 use Rattle.file_schema.specs.Tables.{schema}
-use Rattle.file_schema.specs.Whole.{IsStill, MayBeWritten}
+use Rattle.file_schema.specs.Clean.{LeavesNoMore}
+use Rattle.file_schema.specs.Whole.{IsStill, LeavesWhole, MayBeWritten, WritesNone}
 use Rattle.model_rows.specs.Lists.{State}
 use Rattle.model_answers.specs.declared.kept.Kept.{Kept}
 use Rattle.model_answers.specs.House.{House}
@@ -18,8 +19,10 @@ use Rattle.file_meaning.specs.Stands.{Stand}
 use Rattle.file_tables.specs.Begun.{IsBegun, token_added}
 use Rattle.file_tables.specs.Held.{number_of}
 use Rattle.file_tables.specs.Shops.{HoldsWhileOpen, IsOfHouse, KnowsWhileOpen, house_of_rows}
+use Rattle.file_tables.specs.Known.{TablesKnow}
+use Rattle.file_tables.specs.declared.sql.SqlTables.{SqlTables}
 use Rattle.file_tables.specs.Made.{IsMade, first_shop}
-use Rattle.file_tables.specs.Tokens.{HasNoRoom, IsNumbered, head_after, house_with, next_one, raised}
+use Rattle.file_tables.specs.Tokens.{AddsNext, HasNoRoom, IsNumbered, head_after, house_with, next_one, raised}
 use Rattle.file_scan.specs.declared.error.OpenError.{OpenError}
 use Rattle.file_open.specs.Opened.{IsReason}
 use Rattle.web_cli.specs.declared.fault.RunFault.{RunFault}
@@ -99,6 +102,20 @@ pub record MakesShopIn {S : Type 0} (g : Ghosts S) (organizer event : List ℕ) 
   pub blank : ¬ (old.now.schema ≡ blank_schema) → outcome ≡ Err faults.NotAShop
   pub cause : IfErr outcome (IsNotMadeFor old.now)
   pub crash : Survives old (state g left) (MayBeWritten blank_schema (λ (_ : Unit {0}) db after. IsBegun (first_shop organizer event) after) old)
+
+-- Over tables that were opened the token was added, or nothing has changed and it is told why not: 16 where there is no room for it, and
+-- else for the store alone. A crash leaves what one before it could have left, or the tables with the token as their next one; and nothing
+-- new where a house that they knew had the token.
+pub record AddsOver {S : Type 0} (g : Ghosts S) (tables : SqlTables S) (digest : List ℕ) (left : Connection S) (outcome : Result ℕ RunFault) : Type 0 where
+  pub gets : IfOk outcome (λ number. HasCleanDisk (state g left) → GetsToken tables.head tables.next_row digest number (state g tables.connection) (state g left))
+  pub cause : IfErr outcome (λ fault. (fault ≡ faults.Full) ⊎ IsOfStore fault)
+  pub full : outcome ≡ Err faults.Full → HasCleanDisk (state g left) → (house : House) → TablesKnow g tables house → HasNoRoom (house.tokens digest) tables.head.next_token
+  pub full_open : outcome ≡ Err faults.Full → HasCleanDisk (state g left) → IsTrue (state g tables.connection).is_open
+  pub clean : HasCleanDisk (state g left) → HasCleanDisk (state g tables.connection)
+  pub none : WritesNone g tables.connection left schema outcome
+  pub crash : LeavesWhole g tables.connection left schema (λ (_ : Unit {0}). AddsNext tables.head digest)
+  pub known_crash : HasCleanDisk (state g left) → (house : House) → TablesKnow g tables house → (number : ℕ) → house.tokens digest ≡ Some number
+      → LeavesNoMore g tables.connection left
 
 -- The shop in the database got this token, or nothing has changed and it is told why not; and a crash leaves what one before it could have
 -- left, or the shop with the token, which is new then.

@@ -1,6 +1,8 @@
 pub mod Faults
 pub mod Filed
 pub mod Served
+pub mod Came
+pub mod Stored
 pub mod Acting
 pub mod Worked
 pub mod Imported

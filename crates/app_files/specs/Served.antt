@@ -13,13 +13,18 @@ use Rattle.file_scan.specs.Stopped.{WhereClosed}
 use Rattle.file_open.specs.Opened.{IsOpened, IsReason, IsWithheld}
 use Rattle.file_tables.specs.declared.sql.SqlTables.{SqlTables}
 use Rattle.web_connection.specs.Run.{AtTick}
-use Rattle.web_handler.specs.Streams.{DeskView, Meaning, Serves}
+use Rattle.web_handler.specs.Streams.{DeskView, Meaning, Serves, desk_with}
 use Rattle.base_devices.specs.declared.device.Tick.{Tick}
 use Rattle.web_http.specs.Written.{Page}
 use Rattle.web_cli.specs.declared.fault.RunFault.{RunFault}
 use Rattle.web_server.specs.Visits.{AnswersCallers, most_of}
 use Rattle.web_turns.specs.Acts.{between}
 use Rattle.app_files.specs.Faults.{fault_of_opening}
+use Rattle.app_files.specs.declared.filed.Opened.{Opened}
+
+-- the desk of a shop that was opened
+abbrev pub desk_of : {S B : Type 0} → Opened S B → DeskView (SqlTables S)
+desk_of opened = desk_with opened.tables opened.office.organizer opened.office.event opened.office.state
 
 -- The desk is that of the shop in the database: where the disk returned what was written and the connection was open, its tables and its
 -- office are what the rows are opened as. The tables are of this version, the office is sound, and opening changed nothing, in a crash too.

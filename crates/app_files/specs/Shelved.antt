@@ -1,8 +1,11 @@
 -- What becomes of a command on a file that is known by its name.
 use Rattle.std.specs.Prelude.{◌≡◌, ◌⊎◌, ℕ, Bool, true, false, List, Result, Err, IsTrue}
+use Rattle.sqlite_trees.specs.declared.store.Store.{Ghosts}
+use Rattle.sqlite.specs.Held.{state}
 use Rattle.sqlite.specs.declared.connection.Connection.{Connection}
 use Rattle.web_cli.specs.declared.fault.RunFault.{RunFault}
 use Rattle.web_cli.specs.declared.fault.RunFault.TheVariants as faults
+use Rattle.app_files.specs.Came.{Coming}
 
 -- the file isn't there, stands already, can't be opened or is no database; the store failed; or there is no memory
 abbrev pub is_shelf_fault : RunFault → Bool
@@ -37,3 +40,11 @@ abbrev pub IsShelved : {S A : Type 0} → (List ℕ → Connection S → Type 0)
 IsShelved {S = S} gives lacks came file outcome =
     ((connection : Connection S) × (left : Connection S) × gives file connection × came connection left outcome)
     ⊎ ((fault : RunFault) × (outcome ≡ Err fault) × lacks file fault)
+
+-- it came to this over the file of this name, which stood there; or there is no connection to it, and the fault says why
+abbrev pub OverFile : {S A : Type 0} → Ghosts S → (List ℕ → Bool → Type 0) → (List ℕ → Connection S → Type 0) → (List ℕ → RunFault → Type 0) → Coming S A → List ℕ → Result A RunFault → Type 0
+OverFile g stood gives refuses Comes file outcome = IsShelved (IsGiven stood gives true) (IsMissing stood refuses) (λ connection left came. Comes (state g connection) left came) file outcome
+
+-- it came to this over a new file of this name; or there is no connection to one, and the fault says why
+abbrev pub OverNewFile : {S A : Type 0} → Ghosts S → (List ℕ → Bool → Type 0) → (List ℕ → Connection S → Type 0) → (List ℕ → RunFault → Type 0) → Coming S A → List ℕ → Result A RunFault → Type 0
+OverNewFile g stood gives refuses Comes file outcome = IsShelved (IsGiven stood gives false) (IsTaken stood refuses) (λ connection left came. Comes (state g connection) left came) file outcome

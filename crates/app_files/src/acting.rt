@@ -4,9 +4,11 @@ ghost use Rattle.std.specs.Prelude.{◌≡◌};
 ghost use Rattle.web_handler.specs.Streams.{DeskView, desk_with};
 ghost use Rattle.web_server.specs.Clock.{IsRead};
 ghost use Rattle.app_files.specs.Acting.{Acts, ActsFrom, own_arrival, told_of};
+ghost use Rattle.app_files.specs.Served.{desk_of};
+ghost use Rattle.app_files.specs.Stored.{stored};
 ghost use Rattle.web_arrivals.specs.DeskView.{trait_meaning};
 
-use crate::filed::{Filed, connection_of};
+use crate::filed::{Filed, Opened, connection_of};
 use base_devices::Tick;
 use base_values::{Answer, Body};
 use book_usage::Dues;
@@ -68,16 +70,15 @@ fn act_over<T: Tables + Drop, B: Dues + Drop, W: Wording + Drop>(
 fn act_at<S: Alter + Drop, B: Dues + Drop, W: Wording + Drop>(
     alloc: Global,
     tick: Tick,
-    opened: (SqlTables<S>, Office<B>),
+    opened: Opened<S, B>,
     wording: W,
     command: Command,
 ) -> Filed<S, Body>
     ensures { (last : DeskView (SqlTables S))
-        × Acts (W.words wording) command tick (trait_meaning ⟦<SqlTables<S> as Tables>⟧)
-        (desk_with opened.0 opened.1.organizer opened.1.event opened.1.state) last result.outcome
+        × Acts (W.words wording) command tick (stored S.Store) (desk_of opened) last result.outcome
         × (result.connection ≡ last.tables.connection) }
 {
-    let (tables, office) = opened;
+    let Opened { tables, office } = opened;
     let (tables, outcome) = act_over(alloc, tick, tables, office, wording, command);
     Filed {
         connection: tables.into_connection(),
@@ -91,14 +92,12 @@ fn act_at<S: Alter + Drop, B: Dues + Drop, W: Wording + Drop>(
 pub(crate) fn act_opened<R: System, S: Alter + Drop, B: Dues + Drop, W: Wording + Drop>(
     rt: &R,
     alloc: Global,
-    opened: (SqlTables<S>, Office<B>),
+    opened: Opened<S, B>,
     wording: W,
     command: Command,
 ) -> Filed<S, Body>
-    ensures { ActsFrom (IsRead R.shows R.gives) (W.words wording) command
-        (trait_meaning ⟦<SqlTables<S> as Tables>⟧)
-        (desk_with opened.0 opened.1.organizer opened.1.event opened.1.state) result.connection
-        result.outcome }
+    ensures { ActsFrom (IsRead R.shows R.gives) (W.words wording) command (stored S.Store)
+        (desk_of opened) result.connection result.outcome }
 {
     match read_tick(rt) {
         Some(tick) => act_at(alloc, tick, opened, wording, command),

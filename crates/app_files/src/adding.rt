@@ -1,23 +1,16 @@
 //! A token is added to the shop in a database.
 
-ghost use Rattle.std.specs.Prelude.{◌≡◌, ◌⊎◌, ℕ, Some, Err, IfOk, IfErr, OnErr, IsTrue};
+ghost use Rattle.std.specs.Prelude.{◌≡◌};
 ghost use Rattle.sha2.specs.Sha256.{sha256};
-ghost use Rattle.sqlite.specs.Held.{state};
-ghost use Rattle.sqlite.specs.State.{HasCleanDisk, Survives};
-ghost use Rattle.model_answers.specs.House.{House};
-ghost use Rattle.file_schema.specs.Tables.{schema};
-ghost use Rattle.file_schema.specs.Whole.{IsOver, IsStill, MayBeWritten};
-ghost use Rattle.web_cli.specs.declared.fault.RunFault.TheVariants.{Full};
-ghost use Rattle.file_tables.specs.Begun.{HasToken};
-ghost use Rattle.file_tables.specs.Shops.{KnowsWhileOpen};
-ghost use Rattle.file_tables.specs.Tokens.{HasNoRoom, next_one, raised};
+ghost use Rattle.app_files.specs.Came.{CameTo};
 ghost use Rattle.app_files.specs.Faults.{told_of_token};
-ghost use Rattle.app_files.specs.Filed.{AddsTokenIn, GetsToken, IsOfStore};
+ghost use Rattle.app_files.specs.Filed.{AddsOver, AddsTokenIn};
 
 use crate::faults::fault_of_token;
-use crate::filed::{Filed, connection_of};
+use crate::filed::{Filed, Opened, connection_of};
 use crate::opening::open_shop;
-use file_tables::{SqlTables, TokenError, add_token};
+use book_usage::Book;
+use file_tables::{TokenError, add_token};
 use sha2::{Digest, Sha256};
 use sqlite::{Alter, Connection};
 use std::alloc::Global;
@@ -33,34 +26,12 @@ fn told(added: Result<u64, TokenError>) -> Result<u64, RunFault>
     }
 }
 
-// Adds a token to tables that were opened together with something else, which is let go.
-fn add_over<S: Alter + Drop, O: Drop>(opened: (SqlTables<S>, O), token: &str) -> Filed<S, u64>
-    ensures gets { IfOk result.outcome (λ number. HasCleanDisk (state S.Store result.connection)
-        → GetsToken opened.0.head opened.0.next_row (sha256 token.now) number
-        (state S.Store opened.0.connection) (state S.Store result.connection)) }
-    ensures cause { IfErr result.outcome (λ fault. (fault ≡ Full) ⊎ IsOfStore fault) }
-    ensures full { result.outcome ≡ Err Full → HasCleanDisk (state S.Store result.connection)
-        → (house : House)
-        → KnowsWhileOpen opened.0.head opened.0.next_row (state S.Store opened.0.connection) house
-        → HasNoRoom (house.tokens (sha256 token.now)) opened.0.head.next_token }
-    ensures full_open { result.outcome ≡ Err Full → HasCleanDisk (state S.Store result.connection)
-        → IsTrue (state S.Store opened.0.connection).is_open }
-    ensures clean { HasCleanDisk (state S.Store result.connection)
-        → HasCleanDisk (state S.Store opened.0.connection) }
-    ensures none { HasCleanDisk (state S.Store result.connection)
-        → IsOver schema (state S.Store opened.0.connection)
-        → OnErr result.outcome
-        (IsStill (state S.Store opened.0.connection) (state S.Store result.connection)) }
-    ensures crash { Survives (state S.Store opened.0.connection) (state S.Store result.connection)
-        (MayBeWritten schema (λ (_ : Unit {0}). HasToken (raised opened.0.head)
-        (next_one opened.0.head (sha256 token.now))) (state S.Store opened.0.connection)) }
-    ensures known_crash { HasCleanDisk (state S.Store result.connection) → (house : House)
-        → KnowsWhileOpen opened.0.head opened.0.next_row (state S.Store opened.0.connection) house
-        → (number : ℕ) → house.tokens (sha256 token.now) ≡ Some number
-        → Survives (state S.Store opened.0.connection) (state S.Store result.connection) (λ _. ⊥) }
+// Adds a token to a shop that was opened, whose office is let go.
+fn add_over<S: Alter + Drop, B: Book + Drop>(opened: Opened<S, B>, token: &str) -> Filed<S, u64>
+    ensures { AddsOver S.Store opened.tables (sha256 token.now) result.connection result.outcome }
 {
     let mut made = opened;
-    let added = add_token(&mut made.0, &Sha256::digest(token.as_bytes()));
+    let added = add_token(&mut made.tables, &Sha256::digest(token.as_bytes()));
     Filed {
         connection: connection_of(made),
         outcome: told(added),
@@ -77,8 +48,7 @@ pub fn add_shop_token<O: Console, S: Alter + Drop>(
     connection: Connection<S>,
     token: &str,
 ) -> Filed<S, u64>
-    ensures { AddsTokenIn S.Store (sha256 token.now)
-        (state S.Store connection) result.connection result.outcome }
+    ensures { CameTo S.Store (AddsTokenIn S.Store (sha256 token.now)) connection result }
 {
     match open_shop(rt, alloc, connection) {
         Ok(opened) => add_over(opened, token),

@@ -39,7 +39,7 @@ pub fn export_shop<O: Console, S: Alter + Drop, W: Drain>(
 {
     match open_shop(rt, alloc, connection) {
         Ok(opened) => {
-            let mut shown = shown_of(rt, &opened.1);
+            let mut shown = shown_of(rt, &opened.office);
             let mut connection = connection_of(opened);
             let outcome = write_positions(alloc, &mut connection, writer, &mut shown);
             let _ = shown.end();

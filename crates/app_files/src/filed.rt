@@ -2,9 +2,11 @@
 
 ghost use Rattle.std.specs.Prelude.{◌≡◌};
 
+use book_usage::Book;
 use file_tables::SqlTables;
 use sqlite::{Alter, Connection};
 use web_cli::RunFault;
+use web_handler::Office;
 
 /// What became of a command on a shop's database, and the connection, which is handed back.
 #[derive(Drop)]
@@ -15,9 +17,16 @@ pub struct Filed<S: Alter, T: Drop> {
     pub outcome: Result<T, RunFault>,
 }
 
-/// The connection of tables that were made or opened together with something else, which is let go.
-pub(crate) fn connection_of<S: Alter, O: Drop>(made: (SqlTables<S>, O)) -> Connection<S>
-    ensures { result ≡ made.0.connection }
+/// A shop that was opened: its tables, and the office that they hold.
+#[derive(Drop)]
+pub(crate) struct Opened<S: Alter, B: Book> {
+    pub(crate) tables: SqlTables<S>,
+    pub(crate) office: Office<B>,
+}
+
+/// The connection of a shop that was opened, whose office is let go.
+pub(crate) fn connection_of<S: Alter, B: Book + Drop>(opened: Opened<S, B>) -> Connection<S>
+    ensures { result ≡ opened.tables.connection }
 {
-    made.0.into_connection()
+    opened.tables.into_connection()
 }

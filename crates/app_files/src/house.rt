@@ -1,10 +1,9 @@
 //! The commands on shops' files.
 
 ghost use Rattle.std.specs.Prelude.{◌≡◌, true, false, IfOk, IfErr};
-ghost use Rattle.sqlite.specs.Held.{state};
 ghost use Rattle.base_values.specs.Slugs.{IsSlug};
 ghost use Rattle.app_files.specs.Filed.{MakesShopIn};
-ghost use Rattle.app_files.specs.Shelved.{IsGiven, IsMissing, IsShelved, IsTaken};
+ghost use Rattle.app_files.specs.Shelved.{IsGiven, IsMissing, OverNewFile};
 
 use crate::adding::add_shop_token;
 use crate::exporting::export_shop;
@@ -18,8 +17,6 @@ use crate::shelf::Shelf;
 use crate::working::work_shop;
 use base_devices::Drain;
 use base_values::{Body, Slug};
-use file_tables::SqlTables;
-use model_answers::Tables;
 use sqlite::{Alter, Connection};
 use std::alloc::{AllocError, Global};
 use std::marker::PhantomData;
@@ -64,9 +61,8 @@ impl<'a, R, S: Alter + Drop, F: Shelf<Connection<S>>> House<'a, R, S, F> {
 
     // The file of this name, which has to be there.
     fn found(&self, file: &str) -> Result<Connection<S>, RunFault>
-        ensures given { IfOk result
-            (λ connection. IsGiven F.stood F.gives true file.now connection) }
-        ensures refused { IfErr result (λ fault. IsMissing F.stood F.refuses file.now fault) }
+        ensures given { IfOk result (IsGiven F.stood F.gives true file.now) }
+        ensures refused { IfErr result (IsMissing F.stood F.refuses file.now) }
     {
         if self.shelf.stands(file) {
             self.shelf.open(file)
@@ -77,9 +73,8 @@ impl<'a, R, S: Alter + Drop, F: Shelf<Connection<S>>> House<'a, R, S, F> {
 
     // A shop for this organizer and this event, in a file of this name that wasn't there.
     fn made(&self, alloc: Global, file: &str, organizer: Slug, event: Slug) -> Result<(), RunFault>
-        ensures { F.stood file.now false → IsShelved (IsGiven F.stood F.gives false)
-            (IsTaken F.stood F.refuses) (λ connection left came. MakesShopIn S.Store organizer event
-            (state S.Store connection) left came) file.now result }
+        ensures { F.stood file.now false → OverNewFile S.Store F.stood F.gives F.refuses
+            (MakesShopIn S.Store organizer event) file.now result }
     {
         match self.shelf.open(file) {
             Ok(connection) => self.ended(make_new_shop(alloc, connection, organizer, event)),
@@ -105,55 +100,47 @@ impl<
     S: Alter + Drop,
     F: Shelf<Connection<S>>,
 > HouseFiles for House<'_, R, S, F> {
-    ghost use Rattle.std.specs.Prelude.{◌≡◌, ◌⊎◌, true, false, [], Result};
+    ghost use Rattle.std.specs.Prelude.{◌≡◌, true, [], Result};
     ghost use Rattle.sqlite.specs.Held.{state};
     ghost use Rattle.sha2.specs.Sha256.{sha256};
-    ghost use Rattle.web_arrivals.specs.DeskView.{trait_meaning};
     ghost use Rattle.web_cli.specs.declared.fault.RunFault.{RunFault};
     ghost use Rattle.web_server.specs.Clock.{IsRead};
+    ghost use Rattle.app_files.specs.Came.{OrUnopened};
     ghost use Rattle.app_files.specs.Exported.{IsExported};
     ghost use Rattle.app_files.specs.Filed.{AddsTokenIn, MakesShopIn};
     ghost use Rattle.app_files.specs.Imported.{IsOpenedAndImported};
     ghost use Rattle.app_files.specs.Asked.{TellsOf};
-    ghost use Rattle.app_files.specs.Served.{IsOpenedAndServed, StaysUnopened};
-    ghost use Rattle.app_files.specs.Shelved.{IsGiven, IsMissing, IsShelved, IsTaken};
+    ghost use Rattle.app_files.specs.Served.{IsOpenedAndServed};
+    ghost use Rattle.app_files.specs.Shelved.{IsGiven, IsMissing, IsShelved, OverFile, OverNewFile};
+    ghost use Rattle.app_files.specs.Stored.{stored};
     ghost use Rattle.app_files.specs.Worked.{IsOpenedAndWorked};
 
-    ghost made = { λ file organizer event outcome. IsShelved (IsGiven F.stood F.gives false)
-        (IsTaken F.stood F.refuses) (λ connection left came. MakesShopIn S.Store organizer event
-        (state S.Store connection) left came) file outcome };
+    ghost made = { λ file organizer event outcome. OverNewFile S.Store F.stood F.gives F.refuses
+        (MakesShopIn S.Store organizer event) file outcome };
 
-    ghost added = { λ file token outcome. IsShelved (IsGiven F.stood F.gives true)
-        (IsMissing F.stood F.refuses) (λ connection left came. AddsTokenIn S.Store (sha256 token)
-        (state S.Store connection) left came) file outcome };
+    ghost added = { λ file token outcome. OverFile S.Store F.stood F.gives F.refuses
+        (AddsTokenIn S.Store (sha256 token)) file outcome };
 
-    ghost served = { λ file addr most outcome. IsShelved (IsGiven F.stood F.gives true)
-        (IsMissing F.stood F.refuses) (λ connection left came. IsOpenedAndServed
-        (IsRead R.shows R.gives) S.Store (trait_meaning ⟦<SqlTables<S> as Tables>⟧) most
-        (state S.Store connection) left came
-        ⊎ StaysUnopened S.Store (state S.Store connection) left came) file outcome };
+    ghost served = { λ file addr most outcome. OverFile S.Store F.stood F.gives F.refuses
+        (OrUnopened S.Store
+        (IsOpenedAndServed (IsRead R.shows R.gives) S.Store (stored S.Store) most)) file outcome };
 
-    ghost worked = { λ file outcome. IsShelved (IsGiven F.stood F.gives true)
-        (IsMissing F.stood F.refuses) (λ connection left came. IsOpenedAndWorked
-        (IsRead R.shows R.gives) S.Store (trait_meaning ⟦<SqlTables<S> as Tables>⟧)
-        (state S.Store connection) left came
-        ⊎ StaysUnopened S.Store (state S.Store connection) left came) file outcome };
+    ghost worked = { λ file outcome. OverFile S.Store F.stood F.gives F.refuses
+        (OrUnopened S.Store (IsOpenedAndWorked (IsRead R.shows R.gives) S.Store (stored S.Store)))
+        file outcome };
 
-    ghost reported = { λ file report outcome. IsShelved (IsGiven F.stood F.gives true)
-        (IsMissing F.stood F.refuses) (λ connection left came. TellsOf S.Store report
-        (state S.Store connection) left came) file outcome };
+    ghost reported = { λ file report outcome. OverFile S.Store F.stood F.gives F.refuses
+        (TellsOf S.Store report) file outcome };
 
     ghost exported = { λ file text outcome. IsShelved (IsGiven F.stood F.gives true)
         (λ file fault. IsMissing F.stood F.refuses file fault × (text ≡ []))
         (λ connection left came. IsExported S.Store text (state S.Store connection) left came) file
         outcome };
 
-    ghost imported = { λ file csv outcome. IsShelved (IsGiven F.stood F.gives true)
-        (IsMissing F.stood F.refuses) (λ connection left came. (source : Result _ RunFault)
-        × F.held csv source × (IsOpenedAndImported (IsRead R.shows R.gives) S.Store
-        (trait_meaning ⟦<SqlTables<S> as Tables>⟧) source
-        (state S.Store connection) left came
-        ⊎ StaysUnopened S.Store (state S.Store connection) left came)) file outcome };
+    ghost imported = { λ file csv outcome. OverFile S.Store F.stood F.gives F.refuses
+        (λ old left came. (source : Result _ RunFault) × F.held csv source × OrUnopened S.Store
+        (IsOpenedAndImported (IsRead R.shows R.gives) S.Store (stored S.Store) source)
+        old left came) file outcome };
 
     fn make(
         &self,

@@ -1,44 +1,38 @@
 //! The vouchers of a CSV file are added to the shop in a database.
 
 ghost use Rattle.std.specs.Prelude.{◌⊎◌, Ok};
-ghost use Rattle.sqlite.specs.Held.{state};
-ghost use Rattle.web_handler.specs.Streams.{desk_with};
+ghost use Rattle.app_files.specs.Came.{CameTo, OrUnopened};
 ghost use Rattle.web_server.specs.Clock.{IsRead};
 ghost use Rattle.app_files.specs.Imported.{AddsAll, AddsFrom, AddsNothing, IsOpenedAndImported};
-ghost use Rattle.app_files.specs.Served.{StaysUnopened};
+ghost use Rattle.app_files.specs.Served.{desk_of};
+ghost use Rattle.app_files.specs.Stored.{stored};
 ghost use Rattle.web_cli.specs.declared.fault.RunFault.TheVariants.{Memory};
-ghost use Rattle.web_arrivals.specs.DeskView.{trait_meaning};
 
 use crate::acting::act_opened;
 use crate::faults::fault_of_file;
-use crate::filed::{Filed, connection_of};
+use crate::filed::{Filed, Opened, connection_of};
 use crate::opening::open_shop;
 use crate::progress::tell_read;
 use crate::words::ImportWords;
 use app_csv::{codes_of, read_vouchers};
 use base_values::{Body, List};
 use book_usage::Dues;
-use file_tables::SqlTables;
-use model_answers::Tables;
 use model_commands::{Command, NewVoucher};
 use sqlite::{Alter, Connection};
 use std::alloc::Global;
 use web_cli::{Console, RunFault};
-use web_handler::Office;
 use web_server::System;
 
 // Adds the vouchers that were read.
 fn add_vouchers<R: System, S: Alter + Drop, B: Dues + Drop>(
     rt: &R,
     alloc: Global,
-    opened: (SqlTables<S>, Office<B>),
+    opened: Opened<S, B>,
     vouchers: List<NewVoucher>,
 ) -> Filed<S, Body>
-    ensures { AddsAll (IsRead R.shows R.gives) (trait_meaning ⟦<SqlTables<S> as Tables>⟧) vouchers
-        (desk_with opened.0 opened.1.organizer opened.1.event opened.1.state) result.connection
-        result.outcome ⊎ AddsNothing Memory
-        (desk_with opened.0 opened.1.organizer opened.1.event opened.1.state) result.connection
-        result.outcome }
+    ensures { AddsAll (IsRead R.shows R.gives) (stored S.Store) vouchers
+        (desk_of opened) result.connection result.outcome
+        ⊎ AddsNothing Memory (desk_of opened) result.connection result.outcome }
 {
     match codes_of(alloc, vouchers.as_slice()) {
         Ok(codes) => act_opened(
@@ -59,12 +53,11 @@ fn add_vouchers<R: System, S: Alter + Drop, B: Dues + Drop>(
 fn add_read<R: System + Console, S: Alter + Drop, B: Dues + Drop>(
     rt: &R,
     alloc: Global,
-    opened: (SqlTables<S>, Office<B>),
+    opened: Opened<S, B>,
     text: &[u8],
 ) -> Filed<S, Body>
-    ensures { AddsFrom (IsRead R.shows R.gives) (trait_meaning ⟦<SqlTables<S> as Tables>⟧)
-        (Ok text.now) (desk_with opened.0 opened.1.organizer opened.1.event opened.1.state)
-        result.connection result.outcome }
+    ensures { AddsFrom (IsRead R.shows R.gives) (stored S.Store) (Ok text.now)
+        (desk_of opened) result.connection result.outcome }
 {
     match read_vouchers(alloc, text) {
         Ok(vouchers) => {
@@ -82,12 +75,11 @@ fn add_read<R: System + Console, S: Alter + Drop, B: Dues + Drop>(
 fn import_opened<R: System + Console, S: Alter + Drop, B: Dues + Drop>(
     rt: &R,
     alloc: Global,
-    opened: (SqlTables<S>, Office<B>),
+    opened: Opened<S, B>,
     source: Result<Body, RunFault>,
 ) -> Filed<S, Body>
-    ensures { AddsFrom (IsRead R.shows R.gives) (trait_meaning ⟦<SqlTables<S> as Tables>⟧) source
-        (desk_with opened.0 opened.1.organizer opened.1.event opened.1.state) result.connection
-        result.outcome }
+    ensures { AddsFrom (IsRead R.shows R.gives) (stored S.Store) source
+        (desk_of opened) result.connection result.outcome }
 {
     match source {
         Ok(text) => add_read(rt, alloc, opened, text.as_slice()),
@@ -109,10 +101,9 @@ pub fn import_shop<R: System + Console, S: Alter + Drop>(
     connection: Connection<S>,
     source: Result<Body, RunFault>,
 ) -> Filed<S, Body>
-    ensures { IsOpenedAndImported (IsRead R.shows R.gives) S.Store
-        (trait_meaning ⟦<SqlTables<S> as Tables>⟧) source
-        (state S.Store connection) result.connection result.outcome
-        ⊎ StaysUnopened S.Store (state S.Store connection) result.connection result.outcome }
+    ensures { CameTo S.Store (OrUnopened S.Store
+        (IsOpenedAndImported (IsRead R.shows R.gives) S.Store (stored S.Store) source))
+        connection result }
 {
     match open_shop(rt, alloc, connection) {
         Ok(opened) => import_opened(rt, alloc, opened, source),

@@ -20,12 +20,13 @@ ghost use Rattle.model_answers.specs.House.{House};
 ghost use Rattle.model_answers.specs.ShopView.{ShopView};
 ghost use Rattle.app_csv.specs.VerdictLines.{verdict_lines};
 ghost use Rattle.office_deliveries.specs.Deliveries.{step};
-ghost use Rattle.office_deliveries.specs.Histories.{AreKeyless, Crashed, Event, IsRunning, MayLeave, Running, after_act, event_of, opened};
+ghost use Rattle.office_deliveries.specs.Histories.{Crashed, Event, MayLeave, Running, after_act, event_of, opened};
+ghost use Rattle.office_deliveries.specs.Shops.{AreKeyless};
 ghost use Rattle.web_handler.specs.Streams.{DeskView, IsOf, Serves, ServesRunning, desk_with, words_of};
 ghost use Rattle.file_open.specs.Found.{IsFound};
 ghost use Rattle.file_open.specs.Opened.{IsReason};
 ghost use Rattle.app_files.specs.Acting.{Acts, own_arrival, told_of};
-ghost use Rattle.app_files.specs.Evening.{IsOpenedAgain, RunsSo, over};
+ghost use Rattle.app_files.specs.Evening.{IsOpenedAgain, IsRunningAs, RunsSo, over};
 ghost use Rattle.app_files.specs.Imported.{import_words};
 ghost use Rattle.app_files.specs.Served.{OpensAs};
 ghost use Rattle.app_files.specs.Worked.{work_text, work_words};
@@ -61,8 +62,7 @@ pub fn callers_go_on_after_a_crash<S: Alter, K: Ticks>(
         → let tables = trait_meaning ⟦<SqlTables<S> as Tables>⟧
         in let end = between told (desk_with last.now organizer event s)
         in Hall (AtTick K.reads (Serves tables)) came first end all → IsOf tables house first.desk
-        → IsRunning
-        (words_of house) tables.holds tables.may_leave first.desk.tables first.desk.state r
+        → IsRunningAs tables house first.desk r
         → IsFound (state S.Store last.now.connection) (state S.Store fresh.now)
         → (name happening : List ℕ) (z : State)
         → OpensAs S.Store (state S.Store fresh.now) (desk_with again.now name happening z)
@@ -70,7 +70,7 @@ pub fn callers_go_on_after_a_crash<S: Alter, K: Ticks>(
         → (q : Running) × (x : ShopView)
         × Hall (AtTick K.reads (ServesRunning house)) came (seen_at first r) (seen_at end q) all
         × MayLeave (words_of house) q x × IsOf tables house (desk_with again.now name happening z)
-        × IsRunning (words_of house) tables.holds tables.may_leave again.now z
+        × IsRunningAs tables house (desk_with again.now name happening z)
         (opened (words_of house) x) }
     ensures unharmed { (house : House) (r : Running) (came : ℕ) (all : Story)
         (first : Between (DeskView (SqlTables S))) (told : Option (List Tick))
@@ -78,8 +78,7 @@ pub fn callers_go_on_after_a_crash<S: Alter, K: Ticks>(
         → let tables = trait_meaning ⟦<SqlTables<S> as Tables>⟧
         in Hall (AtTick K.reads (Serves tables)) came first
         (between told (desk_with last.now organizer event s)) all → IsOf tables house first.desk
-        → IsRunning
-        (words_of house) tables.holds tables.may_leave first.desk.tables first.desk.state r
+        → IsRunningAs tables house first.desk r
         → IsFound (state S.Store last.now.connection) (state S.Store fresh.now)
         → (error : OpenError) → IsReason (state S.Store fresh.now).now error → IsOfMachine error }
 {

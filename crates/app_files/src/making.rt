@@ -1,6 +1,6 @@
 //! A shop is made in a database.
 
-ghost use Rattle.sqlite.specs.Held.{state};
+ghost use Rattle.app_files.specs.Came.{CameTo};
 ghost use Rattle.app_files.specs.Filed.{MakesShopIn};
 
 use crate::faults::fault_of_making;
@@ -18,8 +18,7 @@ pub fn make_new_shop<S: Alter + Drop>(
     organizer: Slug,
     event: Slug,
 ) -> Filed<S, ()>
-    ensures { MakesShopIn S.Store organizer event
-        (state S.Store connection) result.connection result.outcome }
+    ensures { CameTo S.Store (MakesShopIn S.Store organizer event) connection result }
 {
     match create(alloc, connection, organizer, event) {
         Ok(tables) => Filed {

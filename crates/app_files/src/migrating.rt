@@ -1,6 +1,6 @@
 //! The shop in a database is brought to this program's version.
 
-ghost use Rattle.sqlite.specs.Held.{state};
+ghost use Rattle.app_files.specs.Came.{CameTo};
 ghost use Rattle.app_files.specs.Migrated.{MigratesShopIn};
 
 use crate::faults::fault_of_opening;
@@ -23,7 +23,7 @@ pub fn migrate_shop<O: Console, S: Alter + Drop>(
     alloc: Global,
     connection: Connection<S>,
 ) -> Filed<S, Body>
-    ensures { MigratesShopIn S.Store (state S.Store connection) result.connection result.outcome }
+    ensures { CameTo S.Store (MigratesShopIn S.Store) connection result }
 {
     let mut shown = Shown::opening(rt);
     let migrated = migrate(alloc, connection, &mut shown);

@@ -1,4 +1,6 @@
-//! What a terminal shows of a command that takes long. No clause speaks of it.
+//! What a terminal shows of a command that takes long. Clauses speak of the count alone, and of no line that is shown.
+
+ghost use Rattle.std.specs.Prelude.{◌≡◌, None, Some};
 
 use file_scan::Progress;
 use std::fmt;
@@ -39,7 +41,10 @@ pub(crate) struct Shown<'a, O> {
 
 impl<'a, O: Console> Shown<'a, O> {
     /// The rows of an opening.
-    pub(crate) fn opening(rt: &'a O) -> Shown<'a, O> {
+    pub(crate) fn opening(rt: &'a O) -> Shown<'a, O>
+        ensures all { result.all ≡ None }
+        ensures count { result.count ≡ 0 }
+    {
         Shown {
             rt,
             all: None,
@@ -49,7 +54,10 @@ impl<'a, O: Console> Shown<'a, O> {
     }
 
     /// The order positions of an export, of which there are so many.
-    pub(crate) fn exporting(rt: &'a O, all: u64) -> Shown<'a, O> {
+    pub(crate) fn exporting(rt: &'a O, all: u64) -> Shown<'a, O>
+        ensures all { result.all ≡ Some all }
+        ensures count { result.count ≡ 0 }
+    {
         Shown {
             rt,
             all: Some(all),
@@ -59,7 +67,9 @@ impl<'a, O: Console> Shown<'a, O> {
     }
 
     // Puts its line, over the one that stands there.
-    fn tell(&mut self) {
+    fn tell(&mut self)
+        ensures { self.new.count ≡ self.old.count }
+    {
         if !self.rt.has_reader() {
             return;
         }
@@ -75,7 +85,9 @@ impl<'a, O: Console> Shown<'a, O> {
     }
 
     /// Ends its line, where it began one: whatever is said next begins another. How many rows there were.
-    pub(crate) fn end(mut self) -> u64 {
+    pub(crate) fn end(mut self) -> u64
+        ensures { result ≡ self.entry.count }
+    {
         if self.is_begun {
             self.tell();
             let _ = eprintln!(self.rt; "");

@@ -1,17 +1,15 @@
 //! A report on the shop in a database.
 
-ghost use Rattle.std.specs.Prelude.{◌≡◌, ◌⊎◌, ℕ, IfOk};
-ghost use Rattle.sqlite.specs.Held.{state};
+ghost use Rattle.std.specs.Prelude.{◌≡◌, ℕ, IfOk};
+ghost use Rattle.app_files.specs.Came.{CameTo, OrUnopened};
 ghost use Rattle.model_rows.specs.Lists.{Lists};
 ghost use Rattle.app_files.specs.Reported.{IsOpenedAndReported, IsReport, version_text};
-ghost use Rattle.app_files.specs.Served.{StaysUnopened};
 
-use crate::filed::{Filed, connection_of};
+use crate::filed::{Filed, Opened, connection_of};
 use crate::opening::open_shop;
 use crate::words::append_count;
 use base_values::Body;
 use book_usage::{Book, Dues};
-use file_tables::SqlTables;
 use office_reports::{door_text, sales_text};
 use sqlite::{Alter, Connection};
 use std::alloc::{AllocError, Global};
@@ -63,15 +61,16 @@ pub(crate) fn version_of(alloc: Global, version: u64) -> Result<Body, RunFault>
 fn report_opened<S: Alter + Drop, B: Dues + Drop>(
     alloc: Global,
     report: Report,
-    opened: (SqlTables<S>, Office<B>),
+    opened: Opened<S, B>,
 ) -> Filed<S, Body>
-    ensures told { IsReport report opened.0.head.version opened.1.state.lists result.outcome }
-    ensures connection { result.connection ≡ opened.0.connection }
+    ensures told { IsReport report opened.tables.head.version opened.office.state.lists
+        result.outcome }
+    ensures connection { result.connection ≡ opened.tables.connection }
 {
     let outcome = match report {
-        Report::Sales => sales_of(alloc, &opened.1),
-        Report::Door(list) => door_of(alloc, &opened.1, list),
-        Report::Version => version_of(alloc, opened.0.head.version),
+        Report::Sales => sales_of(alloc, &opened.office),
+        Report::Door(list) => door_of(alloc, &opened.office, list),
+        Report::Version => version_of(alloc, opened.tables.head.version),
     };
     Filed {
         connection: connection_of(opened),
@@ -88,9 +87,8 @@ pub fn report_shop<O: Console, S: Alter + Drop>(
     connection: Connection<S>,
     report: Report,
 ) -> Filed<S, Body>
-    ensures { IsOpenedAndReported S.Store report
-        (state S.Store connection) result.connection result.outcome
-        ⊎ StaysUnopened S.Store (state S.Store connection) result.connection result.outcome }
+    ensures { CameTo S.Store (OrUnopened S.Store (IsOpenedAndReported S.Store report))
+        connection result }
 {
     match open_shop(rt, alloc, connection) {
         Ok(opened) => report_opened(alloc, report, opened),

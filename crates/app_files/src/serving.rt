@@ -1,26 +1,24 @@
 //! The shop in a database is served.
 
 ghost use Rattle.std.specs.Prelude.{◌⊎◌};
-ghost use Rattle.sqlite.specs.Held.{state};
-ghost use Rattle.web_handler.specs.Streams.{desk_with};
-ghost use Rattle.web_cli.specs.Saying.{TellsListening};
+ghost use Rattle.web_cli.specs.Saying.{OnPage, TellsListening};
 ghost use Rattle.web_server.specs.Clock.{IsRead};
-ghost use Rattle.app_files.specs.Served.{IsOpenedAndServed, IsSilent, LeadsFrom, StaysUnopened};
-ghost use Rattle.web_arrivals.specs.DeskView.{trait_meaning};
+ghost use Rattle.app_files.specs.Came.{CameTo};
+ghost use Rattle.app_files.specs.Served.{IsOpenedAndServed, IsSilent, LeadsFrom, StaysUnopened, desk_of};
+ghost use Rattle.app_files.specs.Stored.{stored};
 ghost use Rattle.web_http.specs.Written.{writer_page};
 
-use crate::filed::{Filed, connection_of};
+use crate::filed::{Filed, Opened, connection_of};
 use crate::opening::open_counted;
 use base_devices::Drain;
 use book_usage::Dues;
 use file_tables::SqlTables;
-use model_answers::Tables;
 use sqlite::{Alter, Connection};
 use std::alloc::Global;
 use std::net::{Net, TcpListener, TcpStream};
 use std::time::Clock;
 use web_cli::{Console, Place, RunFault};
-use web_handler::{HouseWords, Office, ShopDesk};
+use web_handler::{HouseWords, ShopDesk};
 use web_server::{Log, Noted, System, serve_at};
 
 // Serves a desk, and hands back the connection of its tables.
@@ -37,10 +35,9 @@ fn serve_desk<
     desk: ShopDesk<SqlTables<S>, B>,
     writer: &mut W,
 ) -> Filed<S, ()>
-    ensures said { TellsListening place.now.text.now
-        (writer_page W.Drain writer.old)
-        (writer_page W.Drain writer.new) result.outcome }
-    ensures leads { LeadsFrom (IsRead R.shows R.gives) (trait_meaning ⟦<SqlTables<S> as Tables>⟧)
+    ensures said { OnPage W.Drain (TellsListening place.now.text.now)
+        writer.old writer.new result.outcome }
+    ensures leads { LeadsFrom (IsRead R.shows R.gives) (stored S.Store)
         place.now.connections desk result.connection result.outcome }
 {
     let mut noted = Noted::new(log, desk);
@@ -62,20 +59,17 @@ fn serve_opened<
     alloc: Global,
     log: &Log<'_, R>,
     place: &Place<'_>,
-    opened: (SqlTables<S>, Office<B>),
+    opened: Opened<S, B>,
     writer: &mut W,
 ) -> Filed<S, ()>
-    ensures said { TellsListening place.now.text.now
-        (writer_page W.Drain writer.old)
-        (writer_page W.Drain writer.new) result.outcome }
-    ensures leads { LeadsFrom (IsRead R.shows R.gives)
-        (trait_meaning ⟦<SqlTables<S> as Tables>⟧) place.now.connections
-        (desk_with opened.0 opened.1.organizer opened.1.event opened.1.state) result.connection
-        result.outcome }
+    ensures said { OnPage W.Drain (TellsListening place.now.text.now)
+        writer.old writer.new result.outcome }
+    ensures leads { LeadsFrom (IsRead R.shows R.gives) (stored S.Store) place.now.connections
+        (desk_of opened) result.connection result.outcome }
 {
-    match HouseWords::new(alloc, opened.1.organizer(), opened.1.event()) {
+    match HouseWords::new(alloc, opened.office.organizer(), opened.office.event()) {
         Ok(words) => {
-            let (tables, office) = opened;
+            let Opened { tables, office } = opened;
             let desk = ShopDesk::with_words(tables, office, words);
             serve_desk(rt, alloc, log, place, desk, writer)
         }
@@ -102,15 +96,12 @@ pub fn serve_shop<
     place: &Place<'_>,
     writer: &mut W,
 ) -> Filed<S, ()>
-    ensures said { TellsListening place.now.text.now
-        (writer_page W.Drain writer.old)
-        (writer_page W.Drain writer.new) result.outcome }
-    ensures served { IsOpenedAndServed (IsRead R.shows R.gives) S.Store
-        (trait_meaning ⟦<SqlTables<S> as Tables>⟧) place.now.connections
-        (state S.Store connection) result.connection result.outcome
-        ⊎ (StaysUnopened S.Store (state S.Store connection) result.connection result.outcome
-        × IsSilent (writer_page W.Drain writer.old)
-        (writer_page W.Drain writer.new)) }
+    ensures said { OnPage W.Drain (TellsListening place.now.text.now)
+        writer.old writer.new result.outcome }
+    ensures served { CameTo S.Store (IsOpenedAndServed (IsRead R.shows R.gives) S.Store
+        (stored S.Store) place.now.connections) connection result
+        ⊎ (CameTo S.Store (StaysUnopened S.Store) connection result
+        × IsSilent (writer_page W.Drain writer.old) (writer_page W.Drain writer.new)) }
 {
     let mut rows = 0;
     match open_counted(rt, alloc, connection, &mut rows) {

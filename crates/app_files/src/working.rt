@@ -1,19 +1,15 @@
 //! The periodic work of the shop in a database is done.
 
-ghost use Rattle.std.specs.Prelude.{◌⊎◌};
-ghost use Rattle.sqlite.specs.Held.{state};
 ghost use Rattle.web_server.specs.Clock.{IsRead};
-ghost use Rattle.app_files.specs.Served.{StaysUnopened};
+ghost use Rattle.app_files.specs.Came.{CameTo, OrUnopened};
+ghost use Rattle.app_files.specs.Stored.{stored};
 ghost use Rattle.app_files.specs.Worked.{IsOpenedAndWorked};
-ghost use Rattle.web_arrivals.specs.DeskView.{trait_meaning};
 
 use crate::acting::act_opened;
 use crate::filed::Filed;
 use crate::opening::open_shop;
 use crate::words::WorkWords;
 use base_values::Body;
-use file_tables::SqlTables;
-use model_answers::Tables;
 use model_commands::Command;
 use sqlite::{Alter, Connection};
 use std::alloc::Global;
@@ -29,10 +25,8 @@ pub fn work_shop<R: System + Console, S: Alter + Drop>(
     alloc: Global,
     connection: Connection<S>,
 ) -> Filed<S, Body>
-    ensures { IsOpenedAndWorked (IsRead R.shows R.gives) S.Store
-        (trait_meaning ⟦<SqlTables<S> as Tables>⟧)
-        (state S.Store connection) result.connection result.outcome
-        ⊎ StaysUnopened S.Store (state S.Store connection) result.connection result.outcome }
+    ensures { CameTo S.Store (OrUnopened S.Store
+        (IsOpenedAndWorked (IsRead R.shows R.gives) S.Store (stored S.Store))) connection result }
 {
     match open_shop(rt, alloc, connection) {
         Ok(opened) => act_opened(rt, alloc, opened, WorkWords, Command::Periodic),

@@ -22,7 +22,7 @@ use Rattle.web_handler.specs.Fed.{FeedsDesk, Ports, devices}
 use Rattle.app_run.specs.Feed.{Feeds}
 use Rattle.web_cli.specs.FeedTicks.{feed_ticks}
 use Rattle.app_run.specs.Fresh.{IsFresh, feed_house}
-use Rattle.app_run.specs.House.{fresh_opening, fresh_shop}
+use Rattle.app_run.specs.House.{LeadsList, LeadsShop, fresh_opening, fresh_shop}
 use Rattle.app_run.specs.Stored.{in_memory, in_store}
 
 module _ {T : Type 0} (tables : Meaning T) (first : DeskView T) (from step : ℕ) (old new : Ports) (result : Result (Unit {0}) Failure) (fresh : IsFresh tables first)
@@ -33,13 +33,13 @@ module _ {T : Type 0} (tables : Meaning T) (first : DeskView T) (from step : ℕ
   fresh_stands : StandsFor (words_of feed_house) tables.holds first.tables first.state fresh_opening []
   fresh_stands = fresh_views
 
-  pub fed_fairly : (w : ShopView) × RunLeads (ServesAndKeeps feed_house) (devices old [] fresh_shop) (devices new (feed_ticks from step fed.count) w) result
+  pub fed_fairly : (w : ShopView) × LeadsShop from step fed.count old new w result
       × Views tables.holds fed.house.tables fed.house.state w × IsSound w.state
   fed_fairly =
       let x = nothing-too-much tables feed_house fresh_shop (devices old [] first) (devices new (feed_ticks from step fed.count) fed.house) result sound_empty fed.leads sure fresh.of fresh_views in
       (x.0, x.1, x.3, x.4)
 
-  pub fed_once : (es : List Delivery) × RunLeads (ServesList feed_house fresh_opening) (devices old [] []) (devices new (feed_ticks from step fed.count) es) result
+  pub fed_once : (es : List Delivery) × LeadsList from step fed.count old new es result
       × StandsFor (words_of feed_house) tables.holds fed.house.tables fed.house.state fresh_opening es
   fed_once =
       let x = told-once tables feed_house fresh_opening [] (devices old [] first) (devices new (feed_ticks from step fed.count) fed.house) result fed.leads sure fresh.of fresh_stands in
@@ -63,14 +63,14 @@ module _ (from step : ℕ) (old new : Ports) (result : Result (Unit {0}) Failure
       subst₂ (λ (p : Ports) (r : Result (Unit {0}) Failure). RunLeads Serves (devices old [] d) (devices p [] d) r) (sym still) (sym failed) (unopened Serves (devices old [] d))
 
   pub feeds_fairly : Feeds from step old new result
-      → (count : ℕ) × (w : ShopView) × RunLeads (ServesAndKeeps feed_house) (devices old [] fresh_shop) (devices new (feed_ticks from step count) w) result × IsSound w.state
+      → (count : ℕ) × (w : ShopView) × LeadsShop from step count old new w result × IsSound w.state
   feeds_fairly (inl (first, fresh, fed)) =
       let x = fed_fairly in_memory first from step old new result fresh fed (memory_sure fed.house.tables) in
       (fed.count, x.0, x.1, x.3)
   feeds_fairly (inr (failed, still)) = (0, fresh_shop, unread (ServesAndKeeps feed_house) fresh_shop failed still, sound_empty)
 
   pub feeds_once : Feeds from step old new result
-      → (count : ℕ) × (es : List Delivery) × RunLeads (ServesList feed_house fresh_opening) (devices old [] []) (devices new (feed_ticks from step count) es) result
+      → (count : ℕ) × (es : List Delivery) × LeadsList from step count old new es result
   feeds_once (inl (first, fresh, fed)) =
       let x = fed_once in_memory first from step old new result fresh fed (memory_sure fed.house.tables) in
       (fed.count, x.0, x.1)

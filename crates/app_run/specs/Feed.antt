@@ -2,12 +2,18 @@
 use Rattle.std.specs.Prelude.{◌≡◌, ◌⊎◌, ℕ, Option, Some, None, Result, Err}
 use Rattle.web_connection.specs.declared.failure.Failure.{Failure}
 use Rattle.web_connection.specs.declared.failure.Failure.TheVariants as failures
-use Rattle.web_handler.specs.Fed.{FeedsDesk, Ports}
+use Rattle.base_devices.specs.declared.device.Source as source
+use Rattle.base_devices.specs.declared.device.Drain as drain
+use Rattle.web_handler.specs.Fed.{FeedsDesk, Ports, ports_at}
 use Rattle.app_run.specs.Fresh.{IsFresh}
 use Rattle.app_run.specs.Stored.{MemoryDesk, in_memory}
 use Rattle.web_cli.specs.declared.fault.RunFault.{RunFault}
 use Rattle.web_cli.specs.declared.fault.RunFault.TheVariants as faults
 use Rattle.web_cli.specs.Faults.{as_fault}
+
+-- what is said of a call by where its reader and its writer stand before it, where they stand after it, and its result
+abbrev pub OnPorts : {R W E : Type 0} → source.Ghosts R → drain.Ghosts W → (Ports → Ports → E → Type 0) → R → W → R → W → E → Type 0
+OnPorts r w Comes reader writer reader_after writer_after result = Comes (ports_at r w reader writer) (ports_at r w reader_after writer_after) result
 
 -- the same from a fresh shop whose tables are in SQLite's memory; or there was no memory for that shop, and then nothing is read
 -- and nothing written

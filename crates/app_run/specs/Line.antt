@@ -7,6 +7,7 @@ use Rattle.web_cli.specs.declared.ended.LineEnd.{LineEnd}
 use Rattle.web_cli.specs.declared.ended.LineEnd.TheVariants as ends
 use Rattle.web_cli.specs.declared.fault.RunFault.{RunFault}
 use Rattle.web_cli.specs.declared.fault.RunFault.TheVariants as faults
+use Rattle.web_cli.specs.declared.files.HouseFiles.{Ghosts}
 use Rattle.web_cli.specs.Asked.{Asked, adds, asked, exports, imports, makes, migrates, none, plain_words, reports, runs, serves, works}
 use Rattle.web_cli.specs.Line.{end_of_line, end_of_run}
 use Rattle.web_cli.specs.declared.values.Report.{Report}
@@ -16,7 +17,7 @@ use Rattle.web_cli.specs.declared.values.ReportFault.TheVariants as report-fault
 use Rattle.web_cli.specs.Values.{feed_values, report_of}
 use Rattle.web_handler.specs.Fed.{Ports}
 use Rattle.app_run.specs.Feed.{FeedsTexts}
-use Rattle.web_cli.specs.Saying.{Adding, AddsToken, Exporting, ExportsFile, Importing, ImportsFile, Making, MakesShop, Reporting, ReportsFile, Serving, ServesFile, Working, WorksFile}
+use Rattle.web_cli.specs.Saying.{AddsToken, ExportsFile, ImportsFile, MakesShop, Reporting, ReportsFile, ServesFile, WorksFile}
 
 -- what the writer took, and how many of its calls failed
 abbrev pub page_of : Ports → Page
@@ -32,26 +33,26 @@ ReportsWhere (Ok report) reported file old new ended = (run : Result (Unit {0}) 
 ReportsWhere (Err report-faults.Unknown) reported file old new ended = (ended ≡ ends.Wrong) × (new ≡ old)
 ReportsWhere (Err report-faults.Argument) reported file old new ended = (ended ≡ ends.Failed faults.Argument) × (new ≡ old)
 
+-- a command came to this on the writer's page, the writer alone went on, and the line ends as the command did
+abbrev pub EndsAfter : (Page → Page → Result (Unit {0}) RunFault → Type 0) → Ports → Ports → LineEnd → Type 0
+EndsAfter Comes old new ended = (run : Result (Unit {0}) RunFault) × Comes (page_of old) (page_of new) run × OnlyWrites old new × (ended ≡ end_of_run run)
+
 -- What is done is what a line asks for: a run with the texts of its two flags; a shop that is made in a file, or a token that is added
 -- to one, or a shop in one that is served, or its periodic work that is done, or a report on one, or its order positions, or the vouchers of
--- a file that are added to one, or the version of its tables, and then nothing is read; or nothing, for one of the reasons, and then nothing is read and nothing written.
-abbrev pub Does : Making → Adding → Serving → Working → Reporting → Exporting → Importing → Asked → Ports → Ports → LineEnd → Type 0
-Does made added served worked reported exported imported (runs from step) old new ended = (run : Result (Unit {0}) RunFault) × FeedsTexts (feed_values from step) old new run × (ended ≡ end_of_run run)
-Does made added served worked reported exported imported (makes file organizer event) old new ended =
-    (run : Result (Unit {0}) RunFault) × MakesShop made file organizer event (page_of old) (page_of new) run × OnlyWrites old new × (ended ≡ end_of_run run)
-Does made added served worked reported exported imported (adds file token) old new ended = (run : Result (Unit {0}) RunFault) × AddsToken added file token (page_of old) (page_of new) run × OnlyWrites old new × (ended ≡ end_of_run run)
-Does made added served worked reported exported imported (serves file listen connections log) old new ended =
-    (run : Result (Unit {0}) RunFault) × ServesFile served file listen connections (page_of old) (page_of new) run × OnlyWrites old new × (ended ≡ end_of_run run)
-Does made added served worked reported exported imported (works file) old new ended = (run : Result (Unit {0}) RunFault) × WorksFile worked file (page_of old) (page_of new) run × OnlyWrites old new × (ended ≡ end_of_run run)
-Does made added served worked reported exported imported (reports file name list) old new ended = ReportsWhere (report_of name list) reported file (page_of old) (page_of new) ended × OnlyWrites old new
-Does made added served worked reported exported imported (exports file) old new ended =
-    (run : Result (Unit {0}) RunFault) × ExportsFile exported file (page_of old) (page_of new) run × OnlyWrites old new × (ended ≡ end_of_run run)
-Does made added served worked reported exported imported (imports file csv) old new ended =
-    (run : Result (Unit {0}) RunFault) × ImportsFile imported file csv (page_of old) (page_of new) run × OnlyWrites old new × (ended ≡ end_of_run run)
-Does made added served worked reported exported imported (migrates file) old new ended =
-    (run : Result (Unit {0}) RunFault) × ReportsFile reported file Version (page_of old) (page_of new) run × OnlyWrites old new × (ended ≡ end_of_run run)
-Does made added served worked reported exported imported (none reasons) old new ended = (reason : ErrorKind) × IsAmong reason reasons × (ended ≡ end_of_line reason) × (new ≡ old)
+-- a file that are added to one, or the version of its tables, and then nothing is read; or nothing, for one of the reasons, and then nothing
+-- is read and nothing written. The files say what a command on one may come to.
+abbrev pub Does : {F : Type 0} → Ghosts F → Asked → Ports → Ports → LineEnd → Type 0
+Does files (runs from step) old new ended = (run : Result (Unit {0}) RunFault) × FeedsTexts (feed_values from step) old new run × (ended ≡ end_of_run run)
+Does files (makes file organizer event) old new ended = EndsAfter (MakesShop files.made file organizer event) old new ended
+Does files (adds file token) old new ended = EndsAfter (AddsToken files.added file token) old new ended
+Does files (serves file listen connections log) old new ended = EndsAfter (ServesFile files.served file listen connections) old new ended
+Does files (works file) old new ended = EndsAfter (WorksFile files.worked file) old new ended
+Does files (reports file name list) old new ended = ReportsWhere (report_of name list) files.reported file (page_of old) (page_of new) ended × OnlyWrites old new
+Does files (exports file) old new ended = EndsAfter (ExportsFile files.exported file) old new ended
+Does files (imports file csv) old new ended = EndsAfter (ImportsFile files.imported file csv) old new ended
+Does files (migrates file) old new ended = EndsAfter (ReportsFile files.reported file Version) old new ended
+Does files (none reasons) old new ended = (reason : ErrorKind) × IsAmong reason reasons × (ended ≡ end_of_line reason) × (new ≡ old)
 
 -- what these words ask for is done, or there is no memory to read them, and then nothing is read and nothing written
-abbrev pub Ran : Making → Adding → Serving → Working → Reporting → Exporting → Importing → List Text → Ports → Ports → LineEnd → Type 0
-Ran made added served worked reported exported imported words old new ended = Does made added served worked reported exported imported (asked (plain_words words)) old new ended ⊎ ((ended ≡ ends.Failed faults.Memory) × (new ≡ old))
+abbrev pub Ran : {F : Type 0} → Ghosts F → List Text → Ports → Ports → LineEnd → Type 0
+Ran files words old new ended = Does files (asked (plain_words words)) old new ended ⊎ ((ended ≡ ends.Failed faults.Memory) × (new ≡ old))

@@ -1,5 +1,5 @@
 -- What is said of a shop's tables in SQLite.
-use Rattle.std.specs.Prelude.{[]}
+use Rattle.std.specs.Prelude.{◌≡◌, [], codes}
 use Rattle.sqlite_trees.specs.declared.memory.MemStore.{MemStore}
 use Rattle.sqlite_trees.specs.declared.store.Store.{Ghosts}
 use Rattle.sqlite.specs.Held.{state}
@@ -10,6 +10,7 @@ use Rattle.model_answers.specs.House.{House}
 use Rattle.file_tables.specs.declared.sql.SqlTables.{SqlTables}
 use Rattle.file_tables.specs.Shops.{HoldsWhileOpen, IsOfHouse, Leaves}
 use Rattle.web_handler.specs.Streams.{DeskView, Meaning, meaning}
+use Rattle.app_run.specs.Opened.{bare_house, feed_house}
 
 -- the disk has returned what was written so far
 abbrev pub IsOnCleanDisk : {S : Type 0} → Ghosts S → SqlTables S → Type 0
@@ -22,6 +23,19 @@ HoldsNoRow g t = HoldsWhileOpen t.head t.next_row (state g t.connection) empty [
 -- these tables know this house
 abbrev pub KnowsHouse : {S : Type 0} → Ghosts S → SqlTables S → House → Type 0
 KnowsHouse g t house = IsOfHouse t.head t.next_row (state g t.connection) house
+
+-- these tables are of the organizer `house` and the event `hall`, hold no row and no answer, and know that house without a token
+pub record AreBare {S : Type 0} (g : Ghosts S) (t : SqlTables S) : Type 0 where
+  pub row : (t.head.organizer ≡ codes "house") × (t.head.event ≡ codes "hall")
+  pub next : t.head.next_token ≡ 1
+  pub holds : HoldsNoRow g t
+  pub knows : KnowsHouse g t bare_house
+
+-- these tables are the same, and know that house with the token `feed`
+pub record AreFed {S : Type 0} (g : Ghosts S) (t : SqlTables S) : Type 0 where
+  pub row : (t.head.organizer ≡ codes "house") × (t.head.event ≡ codes "hall")
+  pub holds : HoldsNoRow g t
+  pub knows : KnowsHouse g t feed_house
 
 -- whatever SQLite keeps them in
 abbrev pub in_store : {S : Type 0} → Ghosts S → Meaning (SqlTables S)

@@ -1,8 +1,7 @@
 //! `feed`: requests from a reader, answers to a writer.
 
-ghost use Rattle.app_run.specs.Feed.{Feeds, FeedsTexts};
+ghost use Rattle.app_run.specs.Feed.{Feeds, FeedsTexts, OnPorts};
 ghost use Rattle.web_cli.specs.Values.{feed_values};
-ghost use Rattle.web_handler.specs.Fed.{ports_at};
 
 use crate::opening::open_memory;
 use base_devices::{Drain, Source};
@@ -23,9 +22,8 @@ pub fn feed<R: Source, W: Drain>(
     reader: &mut R,
     writer: &mut W,
 ) -> Result<(), Failure>
-    ensures { Feeds from step
-        (ports_at R.Source W.Drain reader.old writer.old)
-        (ports_at R.Source W.Drain reader.new writer.new) result }
+    ensures { OnPorts R.Source W.Drain (Feeds from step)
+        reader.old writer.old reader.new writer.new result }
 {
     match open_memory(alloc) {
         Ok((tables, office)) => feed_office(alloc, tables, office, from, step, reader, writer),
@@ -41,9 +39,8 @@ pub fn feed_texts<R: Source, W: Drain>(
     reader: &mut R,
     writer: &mut W,
 ) -> Result<(), RunFault>
-    ensures { FeedsTexts (feed_values from.now step.now)
-        (ports_at R.Source W.Drain reader.old writer.old)
-        (ports_at R.Source W.Drain reader.new writer.new) result }
+    ensures { OnPorts R.Source W.Drain (FeedsTexts (feed_values from.now step.now))
+        reader.old writer.old reader.new writer.new result }
 {
     let Some((from, step)) = feed_values(from, step) else {
         return Err(RunFault::Argument);

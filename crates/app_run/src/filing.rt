@@ -2,8 +2,7 @@
 
 ghost use Rattle.std.specs.Prelude.{◌≡◌, ◌&&◌, option_map};
 ghost use Rattle.base_values.specs.Slugs.{is_slug};
-ghost use Rattle.web_http.specs.Written.{writer_page};
-ghost use Rattle.web_cli.specs.Saying.{AddsToken, ExportsFile, ImportsFile, MakesShop, ReportsFile, ServesFile, Tells, WorksFile};
+ghost use Rattle.web_cli.specs.Saying.{AddsToken, ExportsFile, ImportsFile, MakesShop, OnPage, ReportsFile, ServesFile, Tells, WorksFile};
 
 use base_devices::Drain;
 use base_values::{Body, is_slug};
@@ -28,8 +27,8 @@ pub fn make_shop<F: HouseFiles, W: Drain>(
     event: &str,
     writer: &mut W,
 ) -> Result<(), RunFault>
-    ensures { MakesShop F.made file.now organizer.now event.now
-        (writer_page W.Drain writer.old) (writer_page W.Drain writer.new) result }
+    ensures { OnPage W.Drain (MakesShop F.made file.now organizer.now event.now)
+        writer.old writer.new result }
 {
     if !are_slugs(organizer, event) {
         return Err(RunFault::Argument);
@@ -49,8 +48,7 @@ pub fn add_token<F: HouseFiles, W: Drain>(
     token: &str,
     writer: &mut W,
 ) -> Result<(), RunFault>
-    ensures { AddsToken F.added file.now token.now
-        (writer_page W.Drain writer.old) (writer_page W.Drain writer.new) result }
+    ensures { OnPage W.Drain (AddsToken F.added file.now token.now) writer.old writer.new result }
 {
     if !is_token(token) {
         return Err(RunFault::Argument);
@@ -72,9 +70,8 @@ pub fn serve_shop<F: HouseFiles, W: Drain>(
     line: ServeLine<'_>,
     writer: &mut W,
 ) -> Result<(), RunFault>
-    ensures { ServesFile F.served line.entry.file.now line.entry.listen.now
-        (option_map (λ t. t.now) line.entry.connections)
-        (writer_page W.Drain writer.old) (writer_page W.Drain writer.new) result }
+    ensures { OnPage W.Drain (ServesFile F.served line.entry.file.now line.entry.listen.now
+        (option_map (λ t. t.now) line.entry.connections)) writer.old writer.new result }
 {
     let Some((addr, connections)) = serve_values(line.listen, line.connections) else {
         return Err(RunFault::Argument);
@@ -95,8 +92,7 @@ pub fn work_shop<F: HouseFiles, W: Drain>(
     file: &str,
     writer: &mut W,
 ) -> Result<(), RunFault>
-    ensures { WorksFile F.worked file.now
-        (writer_page W.Drain writer.old) (writer_page W.Drain writer.new) result }
+    ensures { OnPage W.Drain (WorksFile F.worked file.now) writer.old writer.new result }
 {
     match files.work(alloc, file) {
         Ok(done) => said(say(writer, done.as_slice(), b"")),
@@ -106,8 +102,7 @@ pub fn work_shop<F: HouseFiles, W: Drain>(
 
 // Tells a text of lines as it is, where there is one.
 fn tell<W: Drain>(writer: &mut W, came: Result<Body, RunFault>) -> Result<(), RunFault>
-    ensures { Tells (λ text. text) came
-        (writer_page W.Drain writer.old) (writer_page W.Drain writer.new) result }
+    ensures { OnPage W.Drain (Tells (λ text. text) came) writer.old writer.new result }
 {
     match came {
         Ok(text) => said(write_all(writer, text.as_slice())),
@@ -123,8 +118,7 @@ pub fn report_shop<F: HouseFiles, W: Drain>(
     report: Report,
     writer: &mut W,
 ) -> Result<(), RunFault>
-    ensures { ReportsFile F.reported file.now report
-        (writer_page W.Drain writer.old) (writer_page W.Drain writer.new) result }
+    ensures { OnPage W.Drain (ReportsFile F.reported file.now report) writer.old writer.new result }
 {
     tell(writer, files.report(alloc, file, report))
 }
@@ -136,8 +130,7 @@ pub fn export_shop<F: HouseFiles, W: Drain>(
     file: &str,
     writer: &mut W,
 ) -> Result<(), RunFault>
-    ensures { ExportsFile F.exported file.now
-        (writer_page W.Drain writer.old) (writer_page W.Drain writer.new) result }
+    ensures { OnPage W.Drain (ExportsFile F.exported file.now) writer.old writer.new result }
 {
     files.export(alloc, file, writer)
 }
@@ -150,8 +143,8 @@ pub fn import_vouchers<F: HouseFiles, W: Drain>(
     csv: &str,
     writer: &mut W,
 ) -> Result<(), RunFault>
-    ensures { ImportsFile F.imported file.now csv.now
-        (writer_page W.Drain writer.old) (writer_page W.Drain writer.new) result }
+    ensures { OnPage W.Drain
+        (ImportsFile F.imported file.now csv.now) writer.old writer.new result }
 {
     tell(writer, files.import(alloc, file, csv))
 }

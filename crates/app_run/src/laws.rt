@@ -1,17 +1,15 @@
 //! Laws of what is fed, and of SQLite's memory as what a shop's tables stand in.
 
-ghost use Rattle.std.specs.Prelude.{ℕ, List, [], Result};
+ghost use Rattle.std.specs.Prelude.{ℕ, List, Result};
 ghost use Rattle.model_invariant.specs.Sound.{IsSound};
 ghost use Rattle.model_answers.specs.ShopView.{ShopView};
 ghost use Rattle.web_handler.specs.Deliveries.{Delivery, StandsFor, Views};
 ghost use Rattle.web_connection.specs.declared.failure.Failure.{Failure};
-ghost use Rattle.web_connection.specs.Run.{RunLeads};
-ghost use Rattle.web_handler.specs.Streams.{DeskView, meaning, words_of, ServesAndKeeps, ServesList};
+ghost use Rattle.web_handler.specs.Streams.{DeskView, trait_meaning, words_of};
 ghost use Rattle.app_run.specs.Fresh.{IsFresh, feed_house};
-ghost use Rattle.web_handler.specs.Fed.{FeedsDesk, Ports, devices};
+ghost use Rattle.web_handler.specs.Fed.{FeedsDesk, Ports};
 ghost use Rattle.app_run.specs.Feed.{Feeds};
-ghost use Rattle.web_cli.specs.FeedTicks.{feed_ticks};
-ghost use Rattle.app_run.specs.House.{fresh_opening, fresh_shop};
+ghost use Rattle.app_run.specs.House.{LeadsList, LeadsShop, fresh_opening};
 ghost use Rattle.sqlite_trees.specs.declared.memory.MemStore.{MemStore};
 ghost use Rattle.sqlite.specs.Held.{state};
 ghost use Rattle.sqlite.specs.State.{HasCleanDisk};
@@ -25,12 +23,9 @@ use model_answers::Tables;
 pub fn what_is_fed_takes_nothing_too_much<T: Tables>()
     ensures { (first : DeskView T) (from step : ℕ) (old new : Ports)
         (result : Result (Unit {0}) Failure)
-        → let tables = meaning T.sure T.holds T.knows T.may_leave in
-        IsFresh tables first → (fed : FeedsDesk tables first from step old new result)
-        → T.sure fed.house.tables
-        → (w : ShopView)
-        × RunLeads (ServesAndKeeps feed_house) (devices old [] fresh_shop)
-        (devices new (feed_ticks from step fed.count) w) result
+        → let tables = trait_meaning T.Tables in IsFresh tables first
+        → (fed : FeedsDesk tables first from step old new result) → T.sure fed.house.tables
+        → (w : ShopView) × LeadsShop from step fed.count old new w result
         × Views T.holds fed.house.tables fed.house.state w × IsSound w.state }
 {}
 
@@ -39,12 +34,9 @@ pub fn what_is_fed_takes_nothing_too_much<T: Tables>()
 pub fn what_is_fed_is_told_once<T: Tables>()
     ensures { (first : DeskView T) (from step : ℕ) (old new : Ports)
         (result : Result (Unit {0}) Failure)
-        → let tables = meaning T.sure T.holds T.knows T.may_leave in
-        IsFresh tables first → (fed : FeedsDesk tables first from step old new result)
-        → T.sure fed.house.tables
-        → (es : List Delivery)
-        × RunLeads (ServesList feed_house fresh_opening) (devices old [] [])
-        (devices new (feed_ticks from step fed.count) es) result
+        → let tables = trait_meaning T.Tables in IsFresh tables first
+        → (fed : FeedsDesk tables first from step old new result) → T.sure fed.house.tables
+        → (es : List Delivery) × LeadsList from step fed.count old new es result
         × StandsFor (words_of feed_house) T.holds
         fed.house.tables fed.house.state fresh_opening es }
 {}
@@ -54,9 +46,8 @@ pub fn what_is_fed_is_told_once<T: Tables>()
 pub fn what_feed_is_fed_takes_nothing_too_much()
     ensures { (from step : ℕ) (old new : Ports) (result : Result (Unit {0}) Failure)
         → Feeds from step old new result
-        → (count : ℕ) × (w : ShopView)
-        × RunLeads (ServesAndKeeps feed_house) (devices old [] fresh_shop)
-        (devices new (feed_ticks from step count) w) result × IsSound w.state }
+        → (count : ℕ) × (w : ShopView) × LeadsShop from step count old new w result
+        × IsSound w.state }
 {}
 
 /// Whatever bytes are fed to `feed`: there is a list of arrivals, those of the messages that were acted on, of which each was told
@@ -64,9 +55,7 @@ pub fn what_feed_is_fed_takes_nothing_too_much()
 pub fn what_feed_is_fed_is_told_once()
     ensures { (from step : ℕ) (old new : Ports) (result : Result (Unit {0}) Failure)
         → Feeds from step old new result
-        → (count : ℕ) × (es : List Delivery)
-        × RunLeads (ServesList feed_house fresh_opening) (devices old [] [])
-        (devices new (feed_ticks from step count) es) result }
+        → (count : ℕ) × (es : List Delivery) × LeadsList from step count old new es result }
 {}
 
 /// SQLite's memory has always returned what was written, so that what is said of a shop over sure tables holds of one in it.

@@ -1,10 +1,10 @@
 //! What a command line comes to.
 
 ghost use Rattle.std.specs.Prelude.{map, option_map, string_bytes};
-ghost use Rattle.web_http.specs.Written.{writer_page};
+ghost use Rattle.app_run.specs.Feed.{OnPorts};
 ghost use Rattle.app_run.specs.Line.{Ran, ReportsWhere};
+ghost use Rattle.web_cli.specs.Saying.{OnPage};
 ghost use Rattle.web_cli.specs.Values.{report_of};
-ghost use Rattle.web_handler.specs.Fed.{ports_at};
 
 use crate::feeding::feed_texts;
 use crate::filing::{
@@ -27,9 +27,9 @@ fn report_file<O: Console, F: HouseFiles, W: Drain>(
     list: Option<&str>,
     writer: &mut W,
 ) -> LineEnd
-    ensures { ReportsWhere (report_of name.now (option_map (λ t. t.now) list.entry))
-        F.reported file.now
-        (writer_page W.Drain writer.old) (writer_page W.Drain writer.new) result }
+    ensures { OnPage W.Drain
+        (ReportsWhere (report_of name.now (option_map (λ t. t.now) list.entry)) F.reported file.now)
+        writer.old writer.new result }
 {
     match report_of(name, list) {
         Ok(report) => tell_run(rt, report_shop(alloc, files, file, report, writer)),
@@ -49,10 +49,9 @@ pub fn run<O: Console, F: HouseFiles, R: Source, W: Drain>(
     reader: &mut R,
     writer: &mut W,
 ) -> LineEnd
-    ensures { Ran F.made F.added F.served F.worked F.reported F.exported F.imported
-        (map string_bytes words.now)
-        (ports_at R.Source W.Drain reader.old writer.old)
-        (ports_at R.Source W.Drain reader.new writer.new) result }
+    ensures { OnPorts R.Source W.Drain
+        (Ran F.HouseFiles (map string_bytes words.now))
+        reader.old writer.old reader.new writer.new result }
 {
     let Ok(words) = plain_words(alloc, words) else {
         return tell_fault(rt, RunFault::Memory);

@@ -4,9 +4,8 @@ ghost use Rattle.std.specs.Prelude.{◌≡◌, Ok, Err, IfOk, IfErr, OnOk, codes
 ghost use Rattle.sqlite.specs.Held.{state};
 ghost use Rattle.sqlite.specs.Steps.{over_memory};
 ghost use Rattle.model_rows.specs.Lists.{empty};
-ghost use Rattle.file_tables.specs.Tokens.{raised};
-ghost use Rattle.app_run.specs.Stored.{HoldsNoRow, IsOnCleanDisk, KnowsHouse};
-ghost use Rattle.app_run.specs.Opened.{IsFreshShop, bare_house, feed_digest, feed_house};
+ghost use Rattle.app_run.specs.Stored.{AreBare, AreFed, IsOnCleanDisk};
+ghost use Rattle.app_run.specs.Opened.{IsFreshShop, feed_digest};
 
 use base_values::Slug;
 use book_counters::Counters;
@@ -66,12 +65,7 @@ fn begin<S: Alter + Drop>(
 ) -> Result<(SqlTables<S>, Office<Counters>), AllocError>
     ensures office { IfOk result (λ made. (made.1.organizer ≡ codes "house")
         × (made.1.event ≡ codes "hall") × (made.1.state ≡ empty)) }
-    ensures row { IfOk result (λ made. IsOnCleanDisk S.Store made.0
-        → (made.0.head.organizer ≡ codes "house") × (made.0.head.event ≡ codes "hall")) }
-    ensures next { IfOk result (λ made. IsOnCleanDisk S.Store made.0 → made.0.head.next_token ≡ 1) }
-    ensures holds { IfOk result (λ made. IsOnCleanDisk S.Store made.0 → HoldsNoRow S.Store made.0) }
-    ensures knows { IfOk result (λ made. IsOnCleanDisk S.Store made.0
-        → KnowsHouse S.Store made.0 bare_house) }
+    ensures tables { IfOk result (λ made. IsOnCleanDisk S.Store made.0 → AreBare S.Store made.0) }
 {
     let of_office = names(alloc)?;
     let of_tables = names(alloc)?;
@@ -84,13 +78,8 @@ fn begin<S: Alter + Drop>(
 // Adds the token `feed`, as the first one.
 fn add_feed<S: Alter>(tables: &mut SqlTables<S>) -> Result<(), AllocError>
     ensures clean { IsOnCleanDisk S.Store tables.new → IsOnCleanDisk S.Store tables.old }
-    ensures row { IsOnCleanDisk S.Store tables.new → KnowsHouse S.Store tables.old bare_house
-        → OnOk result (tables.new.head ≡ raised tables.old.head) }
-    ensures holds { IsOnCleanDisk S.Store tables.new → HoldsNoRow S.Store tables.old
-        → HoldsNoRow S.Store tables.new }
-    ensures knows { IsOnCleanDisk S.Store tables.new → tables.old.head.next_token ≡ 1
-        → KnowsHouse S.Store tables.old bare_house
-        → OnOk result (KnowsHouse S.Store tables.new feed_house) }
+    ensures fed { IsOnCleanDisk S.Store tables.new → AreBare S.Store tables.old
+        → OnOk result (AreFed S.Store tables.new) }
 {
     match add_token(tables, &digest_of_feed()) {
         Ok(_) => Ok(()),

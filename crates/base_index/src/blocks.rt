@@ -2,15 +2,16 @@
 
 ghost use Rattle.std.specs.Prelude.{◌≡◌, ◌≤◌, ◌<◌, ◌+◌, ◌-◌, ◌*◌, ◌↔◌, ℕ, [], length, slice_index_or, slice_set, IsTrue, OnOk, OnErr, IfOk, IfErr};
 ghost use Rattle.std.specs.List.{insert, remove};
-ghost use Rattle.base_sorted.specs.Tables.{AreInOrder, IsPlace, IsGap};
+ghost use Rattle.base_sorted.specs.Tables.{AreInOrder, IsPlace, IsGap, most_listed};
 
 use crate::block::{HALF, SIZE};
 use crate::chain::{Chain, Spot};
+use base_sorted::MOST_LISTED;
 use std::alloc::{AllocError, Global};
 use std::marker::Model;
 
-/// How many blocks there can be: they have places for 2^32 entries.
-const MOST: usize = 4_294_967_296 / SIZE;
+/// How many blocks there can be: they have places for as many entries as a table takes rows.
+const MOST: usize = MOST_LISTED / SIZE;
 
 /// Entries by place. Contracts see them as a list, and how many more can be added without taking memory.
 ///
@@ -51,7 +52,7 @@ impl Blocks {
 
     /// There are no places for more than 2^32.
     pub fn known(&self)
-        ensures { length self.now.rows + self.now.room ≤ 4294967296 }
+        ensures { length self.now.rows + self.now.room ≤ most_listed }
     {
         let _ = &self.room;
     }
@@ -59,7 +60,7 @@ impl Blocks {
     /// How many there are.
     pub fn len(&self) -> usize
         ensures count { result ≡ length self.now.rows }
-        ensures few { result + self.now.room ≤ 4294967296 }
+        ensures few { result + self.now.room ≤ most_listed }
     {
         self.chain.len()
     }
@@ -115,7 +116,7 @@ impl Blocks {
         requires { AreInOrder (λ n. n) self.now.rows }
         ensures found { IfOk result (IsPlace (λ n. n) self.now.rows entry) }
         ensures absent { IfErr result (IsGap (λ n. n) self.now.rows entry) }
-        ensures few { IfOk result (λ at. at < 4294967296) }
+        ensures few { IfOk result (λ at. at < most_listed) }
     {
         if self.chain.count() == 0 {
             return Err(0);
@@ -189,7 +190,7 @@ fn is_emptied(spot: Spot, filled: usize) -> bool
 
 // Where a spot is, once its block is split into two halves.
 fn half_of(spot: Spot) -> Spot
-    requires { spot.block < 4294967296 }
+    requires { spot.block < most_listed }
     ensures lower { spot.offset ≤ 256
         → (result.block ≡ spot.block) × (result.offset ≡ spot.offset) }
     ensures upper { 256 < spot.offset

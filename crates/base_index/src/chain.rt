@@ -3,8 +3,8 @@
 ghost use Rattle.std.specs.Prelude.{◌≡◌, ◌≤◌, ◌<◌, ◌+◌, ◌-◌, ◌*◌, ℕ, List, [], ◌∷◌, ◌++◌, length, map, take, drop, replicate, slice_index, slice_index_or, slice_set, OnOk, OnErr, IfOk, IfErr};
 ghost use Rattle.std.specs.List.{insert, remove, concat};
 ghost use Rattle.std.specs.Vec.{vec_capacity};
-ghost use Rattle.base_sorted.specs.Tables.{AreInOrder, IsPlace, IsGap};
-ghost use Rattle.base_index.specs.Blocks.{start_of, split_at};
+ghost use Rattle.base_sorted.specs.Tables.{AreInOrder, IsPlace, IsGap, most_listed};
+ghost use Rattle.base_index.specs.Blocks.{nth_block, start_of, split_at};
 
 use crate::block::{Block, HALF, SIZE};
 use std::alloc::{AllocError, Global};
@@ -67,7 +67,7 @@ impl Chain {
     /// How many entries a block has.
     pub fn filled(&self, block: usize) -> usize
         requires { block < length self.now }
-        ensures count { result ≡ length (slice_index_or self.now block []) }
+        ensures count { result ≡ length (nth_block self.now block) }
         ensures few { result ≤ 512 }
     {
         let block = &self.blocks[block];
@@ -80,9 +80,9 @@ impl Chain {
         requires place { place ≤ start_of (last + 1) self.now }
         ensures block { result.block ≤ last }
         ensures place { start_of result.block self.now + result.offset ≡ place }
-        ensures within { result.offset ≤ length (slice_index_or self.now result.block []) }
+        ensures within { result.offset ≤ length (nth_block self.now result.block) }
         ensures at_entry { place < start_of (last + 1) self.now
-            → result.offset < length (slice_index_or self.now result.block []) }
+            → result.offset < length (nth_block self.now result.block) }
     {
         let block = block_at(&self.starts, last, place);
         Spot {
@@ -94,11 +94,10 @@ impl Chain {
     /// The block in which an entry would be, among the blocks up to the last that has some.
     pub fn block_for(&self, last: usize, entry: u128) -> usize
         requires within { last < length self.now }
-        requires filled { (b : ℕ) → 0 < b → b ≤ last → 0 < length (slice_index_or self.now b []) }
+        requires filled { (b : ℕ) → 0 < b → b ≤ last → 0 < length (nth_block self.now b) }
         ensures within { result ≤ last }
-        ensures from { 0 < result → slice_index (slice_index_or self.now result []) 0 ≤ entry }
-        ensures before { result < last
-            → entry < slice_index (slice_index_or self.now (result + 1) []) 0 }
+        ensures from { 0 < result → slice_index (nth_block self.now result) 0 ≤ entry }
+        ensures before { result < last → entry < slice_index (nth_block self.now (result + 1)) 0 }
     {
         block_for(&self.blocks, last, entry)
     }
@@ -106,12 +105,12 @@ impl Chain {
     /// Where an entry of a block is among all, or where it would go.
     pub fn place_in(&self, block: usize, entry: u128) -> Result<usize, usize>
         requires within { block < length self.now }
-        requires in_order { AreInOrder (λ n. n) (slice_index_or self.now block []) }
+        requires in_order { AreInOrder (λ n. n) (nth_block self.now block) }
         ensures found { IfOk result (λ place. (start_of block self.now ≤ place)
-            × IsPlace (λ n. n) (slice_index_or self.now block []) entry
+            × IsPlace (λ n. n) (nth_block self.now block) entry
             (place - start_of block self.now)) }
         ensures absent { IfErr result (λ place. (start_of block self.now ≤ place)
-            × IsGap (λ n. n) (slice_index_or self.now block []) entry
+            × IsGap (λ n. n) (nth_block self.now block) entry
             (place - start_of block self.now)) }
     {
         let start = self.starts[block];
@@ -125,9 +124,8 @@ impl Chain {
     /// The entry at a spot.
     pub fn at(&self, spot: Spot) -> u128
         requires block { spot.block < length self.now }
-        requires within { spot.offset < length (slice_index_or self.now spot.block []) }
-        ensures { (d : ℕ)
-            → slice_index_or (slice_index_or self.now spot.block []) spot.offset d ≡ result }
+        requires within { spot.offset < length (nth_block self.now spot.block) }
+        ensures { (d : ℕ) → slice_index_or (nth_block self.now spot.block) spot.offset d ≡ result }
     {
         let block = &self.blocks[spot.block];
         block.at(spot.offset)
@@ -136,9 +134,9 @@ impl Chain {
     /// Puts an entry instead of the one at a spot.
     pub fn set(&mut self, spot: Spot, entry: u128)
         requires block { spot.block < length self.old }
-        requires within { spot.offset < length (slice_index_or self.old spot.block []) }
+        requires within { spot.offset < length (nth_block self.old spot.block) }
         ensures { self.new ≡ slice_set self.old spot.block
-            (slice_set (slice_index_or self.old spot.block []) spot.offset entry) }
+            (slice_set (nth_block self.old spot.block) spot.offset entry) }
     {
         let block = &mut self.blocks[spot.block];
         block.set(spot.offset, entry);
@@ -147,11 +145,11 @@ impl Chain {
     /// Inserts an entry at a spot, in a block that isn't full.
     pub fn insert(&mut self, spot: Spot, entry: u128)
         requires block { spot.block < length self.old }
-        requires within { spot.offset ≤ length (slice_index_or self.old spot.block []) }
-        requires fits { length (slice_index_or self.old spot.block []) < 512 }
-        requires few { length (concat self.old) < 4294967296 }
+        requires within { spot.offset ≤ length (nth_block self.old spot.block) }
+        requires fits { length (nth_block self.old spot.block) < 512 }
+        requires few { length (concat self.old) < most_listed }
         ensures { self.new ≡ slice_set self.old spot.block
-            (insert (slice_index_or self.old spot.block []) spot.offset entry) }
+            (insert (nth_block self.old spot.block) spot.offset entry) }
     {
         let block = &mut self.blocks[spot.block];
         block.insert(spot.offset, entry);
@@ -162,9 +160,9 @@ impl Chain {
     /// Removes the entry at a spot.
     pub fn remove(&mut self, spot: Spot)
         requires block { spot.block < length self.old }
-        requires within { spot.offset < length (slice_index_or self.old spot.block []) }
+        requires within { spot.offset < length (nth_block self.old spot.block) }
         ensures { self.new ≡ slice_set self.old spot.block
-            (remove (slice_index_or self.old spot.block []) spot.offset) }
+            (remove (nth_block self.old spot.block) spot.offset) }
     {
         let block = &mut self.blocks[spot.block];
         block.remove(spot.offset);
@@ -175,8 +173,8 @@ impl Chain {
     /// Moves the upper half of a full block into the last block, which is empty, and puts that behind it.
     pub fn split(&mut self, block: usize)
         requires within { block + 1 < length self.old }
-        requires full { length (slice_index_or self.old block []) ≡ 512 }
-        requires spare { slice_index_or self.old (length self.old - 1) [] ≡ [] }
+        requires full { length (nth_block self.old block) ≡ 512 }
+        requires spare { nth_block self.old (length self.old - 1) ≡ [] }
         ensures { self.new ≡ split_at block (take (length self.old - 1) self.old) }
     {
         let mut upper = self.blocks.take_last();
@@ -191,7 +189,7 @@ impl Chain {
     /// Removes the one entry of a block, and puts the block behind all others.
     pub fn drop_block(&mut self, block: usize)
         requires within { block < length self.old }
-        requires single { length (slice_index_or self.old block []) ≡ 1 }
+        requires single { length (nth_block self.old block) ≡ 1 }
         ensures { self.new ≡ remove self.old block ++ [] ∷ [] }
     {
         let mut emptied = self.blocks.remove(block);
@@ -240,11 +238,10 @@ fn block_at(starts: &[usize], last: usize, place: usize) -> usize
 // there is none.
 fn block_for(blocks: &[Block], last: usize, entry: u128) -> usize
     requires within { last < length blocks.now }
-    requires filled { (b : ℕ) → 0 < b → b ≤ last → 0 < length (slice_index_or blocks.now b []) }
+    requires filled { (b : ℕ) → 0 < b → b ≤ last → 0 < length (nth_block blocks.now b) }
     ensures within { result ≤ last }
-    ensures from { 0 < result → slice_index (slice_index_or blocks.now result []) 0 ≤ entry }
-    ensures before { result < last
-        → entry < slice_index (slice_index_or blocks.now (result + 1) []) 0 }
+    ensures from { 0 < result → slice_index (nth_block blocks.now result) 0 ≤ entry }
+    ensures before { result < last → entry < slice_index (nth_block blocks.now (result + 1)) 0 }
 {
     let mut low = 0;
     let mut high = last;
@@ -262,8 +259,8 @@ fn block_for(blocks: &[Block], last: usize, entry: u128) -> usize
 // The first entry of a block.
 fn first_of(blocks: &[Block], block: usize) -> u128
     requires within { block < length blocks.now }
-    requires filled { 0 < length (slice_index_or blocks.now block []) }
-    ensures { result ≡ slice_index (slice_index_or blocks.now block []) 0 }
+    requires filled { 0 < length (nth_block blocks.now block) }
+    ensures { result ≡ slice_index (nth_block blocks.now block) 0 }
 {
     let block = &blocks[block];
     block.at(0)
@@ -272,7 +269,7 @@ fn first_of(blocks: &[Block], block: usize) -> u128
 // One more stands before each block from this one on.
 fn raise(starts: &mut Vec<usize>, from: usize)
     requires within { from ≤ length starts.old.items }
-    requires few { (k : ℕ) → slice_index starts.old.items k ≤ 4294967296 }
+    requires few { (k : ℕ) → slice_index starts.old.items k ≤ most_listed }
     ensures { starts.new.items
         ≡ take from starts.old.items ++ map (λ s. s + 1) (drop from starts.old.items) }
 {

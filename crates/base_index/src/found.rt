@@ -1,6 +1,7 @@
 //! What an index has found.
 
 ghost use Rattle.std.specs.Prelude.{◌≡◌, ◌<◌, ◌≤◌, ◌==◌, ◌-◌, ℕ, length, map, take, drop, slice_index_or, IfOk};
+ghost use Rattle.base_sorted.specs.Tables.{most_listed};
 ghost use Rattle.base_index.specs.Entries.{id_of};
 
 use crate::blocks::Blocks;
@@ -18,6 +19,7 @@ pub struct Found<'a> {
 
 impl<'a> Model for Found<'a> {
     ghost use Rattle.std.specs.Prelude.{List, ℕ, ◌-◌, ◌≤◌, length, map, take, drop};
+    ghost use Rattle.base_sorted.specs.Tables.{most_listed};
     ghost use Rattle.base_index.specs.Entries.{id_of};
 
     ghost Value = { List ℕ };
@@ -25,7 +27,7 @@ impl<'a> Model for Found<'a> {
     ghost view = { λ f. map id_of (take (f.end - f.first) (drop f.first f.entries.now.rows)) };
 
     ghost invariant = { λ f. (f.first ≤ f.end) × (f.end ≤ length f.entries.now.rows)
-        × (f.end ≤ 4294967296) };
+        × (f.end ≤ most_listed) };
 }
 
 impl<'a> Found<'a> {
@@ -33,7 +35,7 @@ impl<'a> Found<'a> {
     pub(crate) fn of(entries: &'a Blocks, first: usize, end: usize) -> Self
         requires { (first ≤ end) × (end ≤ length entries.now.rows) }
         ensures all { result ≡ map id_of (take (end - first) (drop first entries.now.rows)) }
-        ensures few { length result ≤ 4294967296 }
+        ensures few { length result ≤ most_listed }
     {
         entries.known();
         Found {

@@ -1,7 +1,7 @@
 //! Indexes: which ids have a key.
 
 ghost use Rattle.std.specs.Prelude.{◌≡◌, ◌≤◌, ◌<◌, ◌+◌, ◌++◌, ℕ, [], length, take, drop, OnOk, OnErr};
-ghost use Rattle.base_sorted.specs.Tables.{with_row, without_row, AreInOrder};
+ghost use Rattle.base_sorted.specs.Tables.{with_row, without_row, AreInOrder, most_listed};
 ghost use Rattle.base_index.specs.Entries.{IsStart, entry, ids_of, ids_between, with_entries, without_id};
 
 use crate::blocks::Blocks;
@@ -65,7 +65,7 @@ impl Index {
     /// The ids of a key, rising.
     pub fn of_key(&self, key: u64) -> Found<'_>
         ensures all { result ≡ ids_of key self.now.rows }
-        ensures few { length result ≤ 4294967296 }
+        ensures few { length result ≤ most_listed }
     {
         let low = start_of(&self.entries, entry(key, 0));
         let high = start_after(&self.entries, key);
@@ -76,7 +76,7 @@ impl Index {
     pub fn between(&self, from: u64, to: u64) -> Found<'_>
         requires { from ≤ to }
         ensures all { result ≡ ids_between from to self.now.rows }
-        ensures few { length result ≤ 4294967296 }
+        ensures few { length result ≤ most_listed }
     {
         let first = start_of(&self.entries, entry(from, 0));
         let end = start_of(&self.entries, entry(to, 0));
@@ -182,7 +182,7 @@ fn move_up(entries: &mut Blocks, id: u64) -> usize
 
 // Moves the entry at a place behind so many that are kept, unless it is of an id. Returns how many are kept then.
 fn move_one(entries: &mut Blocks, kept: usize, at: usize, id: u64) -> usize
-    requires { (kept ≤ at) × (at < length entries.old.rows) × (at < 4294967296) }
+    requires { (kept ≤ at) × (at < length entries.old.rows) × (at < most_listed) }
     ensures rows { take result entries.new.rows ++ without_id id (drop (at + 1) entries.new.rows)
         ≡ take kept entries.old.rows ++ without_id id (drop at entries.old.rows) }
     ensures within { result ≤ at + 1 }

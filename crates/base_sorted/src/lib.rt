@@ -11,6 +11,6 @@ pub mod sparse;
 pub use ids::Ids;
 pub use iter::Iter;
 pub use rising::{are_rising, rises};
-pub use rows::{Row, Rows, place_of};
+pub use rows::{MOST_LISTED, Row, Rows, place_of};
 pub use slot::Slot;
 pub use sparse::Sparse;

@@ -3,10 +3,13 @@
 ghost use Rattle.std.specs.Prelude.{◌≡◌, ◌≤◌, ◌<◌, ◌+◌, ℕ, [], true, length, IfOk, IfErr, OnOk, OnErr, vec_capacity};
 ghost use Rattle.std.specs.List.{insert};
 ghost use Rattle.std.specs.Option.{option_copied, IfSome};
-ghost use Rattle.base_sorted.specs.Tables.{Table, row_at, with_row, without_row, AreInOrder, AreKept, IsPlace, IsGap};
+ghost use Rattle.base_sorted.specs.Tables.{Table, row_at, with_row, without_row, AreInOrder, AreKept, IsPlace, IsGap, most_listed};
 
 use std::alloc::{AllocError, Global};
 use std::marker::Model;
+
+/// The most rows that a table takes.
+pub const MOST_LISTED: usize = 4_294_967_296;
 
 /// A row with an id.
 pub trait Row {
@@ -24,16 +27,16 @@ pub struct Rows<T: Row> {
 
 impl<T: Row> Model for Rows<T> {
     ghost use Rattle.std.specs.Prelude.{◌-◌, ◌≤◌, length, vec_capacity, min};
-    ghost use Rattle.base_sorted.specs.Tables.{Table, AreInOrder};
+    ghost use Rattle.base_sorted.specs.Tables.{Table, AreInOrder, most_listed};
 
     ghost Value = { Table T };
 
     ghost view = { λ t. record {
       rows = t.rows.items;
-      room = min (vec_capacity t.rows) 4294967296 - length t.rows.items;
+      room = min (vec_capacity t.rows) most_listed - length t.rows.items;
     } };
 
-    ghost invariant = { λ t. AreInOrder T.key t.rows.items × (length t.rows.items ≤ 4294967296) };
+    ghost invariant = { λ t. AreInOrder T.key t.rows.items × (length t.rows.items ≤ most_listed) };
 }
 
 impl<T: Row> Rows<T> {
@@ -48,7 +51,7 @@ impl<T: Row> Rows<T> {
 
     /// Ids rise, and there are no more rows than 2^32.
     pub fn known(&self)
-        ensures { AreKept T.key 4294967296 self.now.rows }
+        ensures { AreKept T.key most_listed self.now.rows }
     {
         let _ = &self.rows;
     }
@@ -64,7 +67,7 @@ impl<T: Row> Rows<T> {
     /// The rows in order of id.
     pub fn as_slice(&self) -> &[T]
         ensures all { result.now ≡ self.now.rows }
-        ensures few { length self.now.rows ≤ 4294967296 }
+        ensures few { length self.now.rows ≤ most_listed }
     {
         self.rows.as_slice()
     }
@@ -86,7 +89,7 @@ impl<T: Row> Rows<T> {
         ensures rows { self.new.rows ≡ self.old.rows }
         ensures err { OnErr result (self.new.room ≡ self.old.room) }
     {
-        if count > 4294967296 - self.rows.len() {
+        if count > MOST_LISTED - self.rows.len() {
             return Err(AllocError);
         }
         self.rows.reserve(count)
@@ -96,7 +99,7 @@ impl<T: Row> Rows<T> {
     pub fn room(&self) -> usize
         ensures { result ≡ self.now.room }
     {
-        self.rows.capacity().min(4294967296) - self.rows.len()
+        self.rows.capacity().min(MOST_LISTED) - self.rows.len()
     }
 }
 

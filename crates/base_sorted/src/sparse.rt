@@ -2,12 +2,12 @@
 
 ghost use Rattle.std.specs.Prelude.{◌≡◌, ◌≤◌, ◌<◌, ◌+◌, ◌-◌, ◌*◌, [], length, map, IfOk, OnOk, OnErr, vec_capacity};
 ghost use Rattle.std.specs.Option.{option_copied};
-ghost use Rattle.base_sorted.specs.Tables.{Table, row_at, with_row, without_row, AreInOrder, AreKept};
+ghost use Rattle.base_sorted.specs.Tables.{Table, row_at, with_row, without_row, AreInOrder, AreKept, most_listed};
 ghost use Rattle.base_sorted.specs.Slots.{slot_key, rows_in, count_if};
 
 use crate::iter::Iter;
 use crate::slot::Slot;
-use crate::{Row, place_of};
+use crate::{MOST_LISTED, Row, place_of};
 use std::alloc::{AllocError, Global};
 use std::marker::Model;
 
@@ -25,18 +25,18 @@ pub struct Sparse<T: Row> {
 
 impl<T: Row> Model for Sparse<T> {
     ghost use Rattle.std.specs.Prelude.{◌≡◌, ◌+◌, ◌-◌, ◌*◌, ◌≤◌, length, vec_capacity, min};
-    ghost use Rattle.base_sorted.specs.Tables.{Table, AreInOrder};
+    ghost use Rattle.base_sorted.specs.Tables.{Table, AreInOrder, most_listed};
     ghost use Rattle.base_sorted.specs.Slots.{slot_key, rows_in};
 
     ghost Value = { Table T };
 
     ghost view = { λ t. record {
       rows = rows_in t.slots.items;
-      room = min (vec_capacity t.slots) 4294967296 - length t.slots.items;
+      room = min (vec_capacity t.slots) most_listed - length t.slots.items;
     } };
 
     ghost invariant = { λ t. AreInOrder (slot_key T.key) t.slots.items
-        × (length t.slots.items ≤ 4294967296) × (t.len ≡ length (rows_in t.slots.items))
+        × (length t.slots.items ≤ most_listed) × (t.len ≡ length (rows_in t.slots.items))
         × (length t.slots.items ≤ 2 * t.len + 64) };
 }
 
@@ -53,7 +53,7 @@ impl<T: Row> Sparse<T> {
 
     /// Ids rise, and there are no more rows than 2^32.
     pub fn known(&self)
-        ensures { AreKept T.key 4294967296 self.now.rows }
+        ensures { AreKept T.key most_listed self.now.rows }
     {
         let _ = &self.slots;
     }
@@ -68,7 +68,7 @@ impl<T: Row> Sparse<T> {
     /// The rows in order of id.
     pub fn iter(&self) -> Iter<'_, T>
         ensures all { result ≡ self.now.rows }
-        ensures few { length self.now.rows ≤ 4294967296 }
+        ensures few { length self.now.rows ≤ most_listed }
     {
         Iter::over(&self.slots)
     }
@@ -97,7 +97,7 @@ impl<T: Row> Sparse<T> {
         ensures rows { self.new.rows ≡ self.old.rows }
         ensures err { OnErr result (self.new.room ≡ self.old.room) }
     {
-        if count > 4294967296 - self.slots.len() {
+        if count > MOST_LISTED - self.slots.len() {
             return Err(AllocError);
         }
         self.slots.reserve(count)
@@ -107,7 +107,7 @@ impl<T: Row> Sparse<T> {
     pub fn room(&self) -> usize
         ensures { result ≡ self.now.room }
     {
-        self.slots.capacity().min(4294967296) - self.slots.len()
+        self.slots.capacity().min(MOST_LISTED) - self.slots.len()
     }
 
     // How many rows have the id: one or none.
@@ -182,7 +182,7 @@ fn leave_slot<T: Row + Drop>(slots: &mut Vec<Slot<T>>, id: u64)
 fn close_gaps<T: Row + Drop>(slots: &mut Vec<Slot<T>>, rows: usize)
     requires order { AreInOrder (slot_key T.key) slots.old.items }
     requires count { rows ≡ length (rows_in slots.old.items) }
-    requires few { rows ≤ 4294967296 }
+    requires few { rows ≤ most_listed }
     ensures rows { rows_in slots.new.items ≡ rows_in slots.old.items }
     ensures order { AreInOrder (slot_key T.key) slots.new.items }
     ensures count { length slots.new.items ≤ length slots.old.items }

@@ -65,7 +65,9 @@ has-ids_that members k i n (q ∷ qs) h = by_test (has k (members q)) refl (eqb_
     above : q.id ≡ i → lists_id members k (row_at (λ r. r.id) i qs) ≡ false
     above e = ap (lists_id members k) (row_at_above (λ (r : Quota). r.id) (q.id + 1) i qs (omega (arith, e)) h.1)
 
-    by_test : (b : Bool) → has k (members q) ≡ b → ((eqb q.id i ≡ true) × (q.id ≡ i)) ⊎ ((eqb q.id i ≡ false) × (q.id ≢ i)) → has i (ids_that (λ q. has k (members q)) qs) ≡ lists_id members k (row_at (λ r. r.id) i qs) → has i (map (λ (q : Quota). q.id) (cond b (q ∷ filter (λ q. has k (members q)) qs) (filter (λ q. has k (members q)) qs))) ≡ lists_id members k (if eqb q.id i then Some q else row_at (λ r. r.id) i qs)
+    by_test : (b : Bool) → has k (members q) ≡ b → ((eqb q.id i ≡ true) × (q.id ≡ i)) ⊎ ((eqb q.id i ≡ false) × (q.id ≢ i))
+        → has i (ids_that (λ q. has k (members q)) qs) ≡ lists_id members k (row_at (λ r. r.id) i qs)
+        → has i (map (λ (q : Quota). q.id) (cond b (q ∷ filter (λ q. has k (members q)) qs) (filter (λ q. has k (members q)) qs))) ≡ lists_id members k (if eqb q.id i then Some q else row_at (λ r. r.id) i qs)
     by_test true is (inl e) more = rw e.0 (sym is)
     by_test true is (inr e) more = rw e.0 more
     by_test false is (inl e) more = rw e.0 (more ∙ above e.1 ∙ sym is)

@@ -2,10 +2,11 @@
 
 ghost use Rattle.std.specs.Prelude.{◌≡◌, ◌≢◌, ◌≤◌, ◌+◌, Ok, Err, IfOk, IfErr, OnOk, []};
 ghost use Rattle.std.specs.Option.{option_copied};
-ghost use Rattle.base_sorted.specs.Tables.{AreKept};
-ghost use Rattle.model_catalogue.specs.CatalogueLists.{item_at, variation_at, quota_at, product_of, quotas_of, base_price, is_active, is_sold, variations_of, with_variations};
-ghost use Rattle.model_catalogue.specs.Member.{quota_weight};
-ghost use Rattle.book_catalogue.specs.Puts.{catalogue_with_item, catalogue_with_variation, catalogue_with_quota};
+ghost use Rattle.base_sorted.specs.Tables.{AreKept, most_listed, with_row};
+ghost use Rattle.model_catalogue.specs.CatalogueLists.{item_at, variation_at, quota_at, product_of, base_price, is_active, is_sold, variations_of, with_variations};
+ghost use Rattle.model_catalogue.specs.Kept.{quotas_of};
+ghost use Rattle.model_catalogue.specs.Kept.{quota_weight};
+ghost use Rattle.book_catalogue.specs.Puts.{quotas_with_put};
 
 use crate::members::{list_items, list_variations};
 use base_index::{Found, Index};
@@ -28,7 +29,7 @@ pub struct Catalogue {
 
 impl Model for Catalogue {
     ghost use Rattle.std.specs.Prelude.{min};
-    ghost use Rattle.model_catalogue.specs.CatalogueLists.{CatalogueTables};
+    ghost use Rattle.model_catalogue.specs.Kept.{CatalogueTables};
     ghost use Rattle.book_catalogue.specs.Members.{AreListedItems, AreListedVariations};
 
     ghost Value = { CatalogueTables };
@@ -80,7 +81,7 @@ impl Catalogue {
 
     /// The ids of quotas rise, and there are no more of them than 2^32.
     pub fn known(&self)
-        ensures { AreKept (λ r. r.id) 4294967296 self.now.lists.quotas }
+        ensures { AreKept (λ r. r.id) most_listed self.now.lists.quotas }
     {
         self.quotas.known();
     }
@@ -244,7 +245,8 @@ impl Catalogue {
     /// There has to be room for a row in each table, also where it replaces one.
     pub fn put_item(&mut self, row: Item)
         requires { 1 ≤ self.old.room }
-        ensures lists { self.new.lists ≡ catalogue_with_item row self.old.lists }
+        ensures lists { self.new.lists
+            ≡ record self.old.lists { items = with_row (λ r. r.id) row self.old.lists.items } }
         ensures room { self.old.room ≤ self.new.room + 1 }
     {
         self.items.put(row);
@@ -254,7 +256,8 @@ impl Catalogue {
     /// There has to be room for a row in each table, also where it replaces one.
     pub fn put_variation(&mut self, row: Variation)
         requires { 1 ≤ self.old.room }
-        ensures lists { self.new.lists ≡ catalogue_with_variation row self.old.lists }
+        ensures lists { self.new.lists ≡ record
+            self.old.lists { variations = with_row (λ r. r.id) row self.old.lists.variations } }
         ensures room { self.old.room ≤ self.new.room + 1 }
     {
         self.variations.put(row);
@@ -264,7 +267,8 @@ impl Catalogue {
     /// There has to be room for its row and its members, also where it replaces one.
     pub fn put_quota(&mut self, row: Quota)
         requires { quota_weight row ≤ self.old.room }
-        ensures lists { self.new.lists ≡ catalogue_with_quota row self.old.lists }
+        ensures lists { self.new.lists
+            ≡ record self.old.lists { quotas = quotas_with_put row self.old.lists.quotas } }
         ensures room { self.old.room ≤ self.new.room + quota_weight row }
     {
         list_items(&mut self.by_item, &self.quotas, &row);

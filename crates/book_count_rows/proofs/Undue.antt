@@ -8,7 +8,8 @@ use Rattle.std.proofs.lemmas.List.Sums.{sum_by-cons}
 use Rattle.base_sorted.specs.Tables.{has}
 use Rattle.model_catalogue.specs.declared.rows.Product.{Product}
 use Rattle.model_catalogue.specs.declared.rows.Quota.{Quota}
-use Rattle.model_catalogue.specs.CatalogueLists.{CatalogueLists, quota_at, quotas_of}
+use Rattle.model_catalogue.specs.CatalogueLists.{CatalogueLists, quota_at}
+use Rattle.model_catalogue.specs.Kept.{quotas_of}
 use Rattle.model_catalogue.specs.Member.{is_in}
 use Rattle.book_usage.specs.Dues.{due_carts, due_vouchers}
 use Rattle.model_rows.specs.declared.rows.Voucher.{Voucher}

@@ -268,7 +268,9 @@ module _ (state : State) (changes : List Change) (next : NextIds) (at : ℕ) (pa
       ∙ chosen (λ (v : Voucher). v.id) (λ v. v.id) (λ id. is_none (voucher_at id after)) before.vouchers named named_rise order.vouchers ungone
 
 -- the four lists together
-pub counts_are : (before after : State) (rows : CountRows) (quotas asked exits : List QuotaCount) (vouchers : List VoucherCount) (gone : List ℕ) → rows.quotas ≡ quotas → rows.exits ≡ exits → rows.vouchers ≡ vouchers → rows.gone ≡ gone → quotas ≡ (counts_after before after).quotas → asked ≡ quotas → exits ≡ exits_after before asked → vouchers ≡ (counts_after before after).vouchers → gone ≡ (counts_after before after).gone → rows ≡ counts_after before after
+pub counts_are : (before after : State) (rows : CountRows) (quotas asked exits : List QuotaCount) (vouchers : List VoucherCount) (gone : List ℕ) → rows.quotas ≡ quotas → rows.exits ≡ exits
+    → rows.vouchers ≡ vouchers → rows.gone ≡ gone → quotas ≡ (counts_after before after).quotas → asked ≡ quotas → exits ≡ exits_after before asked → vouchers ≡ (counts_after before after).vouchers
+    → gone ≡ (counts_after before after).gone → rows ≡ counts_after before after
 counts_are before after rows quotas asked exits vouchers gone rq re rv rg q a e v n =
     let one : rows.quotas ≡ (counts_after before after).quotas = rq ∙ q in
     let two : rows.exits ≡ (counts_after before after).exits = re ∙ e ∙ ap (exits_after before) (a ∙ q) in

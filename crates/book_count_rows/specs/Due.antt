@@ -1,10 +1,11 @@
 -- The quotas of which less or more may be used at a later moment, since something came due.
 use Rattle.std.specs.Prelude.{ℕ, List, [], ◌∷◌, ◌++◌, map, flat_map, Option, Some, None}
-use Rattle.model_catalogue.specs.CatalogueLists.{CatalogueLists, quotas_of}
+use Rattle.model_catalogue.specs.CatalogueLists.{CatalogueLists}
+use Rattle.model_catalogue.specs.Kept.{quotas_of}
 use Rattle.book_usage.specs.Dues.{due_carts, due_vouchers}
 use Rattle.model_rows.specs.declared.rows.Voucher.{Voucher}
 use Rattle.model_rows.specs.Lists.{Lists, voucher_at, cart_at}
-use Rattle.model_rows.specs.Named.{carts_naming}
+use Rattle.model_rows.specs.Asked.{carts_naming}
 use Rattle.book_count_rows.specs.Told.{told_if}
 
 -- the cart positions that name the voucher of an id

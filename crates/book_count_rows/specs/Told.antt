@@ -1,5 +1,5 @@
 -- Which counts of an office are told where it comes after another one.
-use Rattle.std.specs.Prelude.{Bool, not, ℕ, List, [], ◌∷◌, if◌then◌else◌, is_none, Option, Some, None}
+use Rattle.std.specs.Prelude.{◌≡◌, Bool, not, ℕ, List, [], ◌∷◌, ◌++◌, flat_map, if◌then◌else◌, is_none, Option, Some, None, OnOk, Result, Vec}
 use Rattle.std.specs.List.{list_any}
 use Rattle.base_sorted.specs.Tables.{AreInOrder}
 use Rattle.model_catalogue.specs.declared.rows.Quota.{Quota}
@@ -8,6 +8,14 @@ use Rattle.model_rows.specs.declared.count_rows.QuotaCount.{QuotaCount}
 use Rattle.model_rows.specs.declared.count_rows.VoucherCount.{VoucherCount}
 use Rattle.model_rows.specs.Lists.{Lists, State, voucher_at}
 use Rattle.model_rows.specs.CountRows.{quota_count, quota_counts, same_quota_count, same_exits, voucher_count, voucher_counts, same_voucher_count}
+
+-- where it succeeds, a list has gained these at its end
+abbrev pub Adds : {T Z A E : Type 0} → Result A E → Vec T Z → Vec T Z → List T → Type 0
+Adds result old new more = OnOk result (new.items ≡ old.items ++ more)
+
+-- where it succeeds, a list has gained what each of these tells, one after another
+abbrev pub AddsEach : {S T Z A E : Type 0} → Result A E → Vec T Z → Vec T Z → (S → List T) → List S → Type 0
+AddsEach result old new told rows = Adds result old new (flat_map told rows)
 
 -- ids rise in the tables of quotas, vouchers and cart positions
 pub record AreOrdered (lists : Lists) : Type 0 where

@@ -1,7 +1,7 @@
 -- Which counts are told by what changes shift.
-use Rattle.std.specs.Prelude.{◌≡◌, ◌≤◌, ℕ, ◌+◌, ◌-◌, ◌==◌, ◌&&◌, not, Bool, false, List, [], ◌∷◌, flat_map, if◌then◌else◌, is_some, Option, Some, None}
-use Rattle.base_sorted.specs.Rising.{rising}
-use Rattle.base_sorted.specs.Tables.{AreInOrder}
+use Rattle.std.specs.Prelude.{ℕ, ◌+◌, ◌-◌, ◌==◌, ◌&&◌, not, Bool, false, List, [], ◌∷◌, if◌then◌else◌, is_some, Option, Some, None}
+use Rattle.std.specs.Coded.{×_prop, Unit-prop, le_prop}
+use Rattle.base_sorted.specs.Tables.{InOrderFrom}
 use Rattle.model_catalogue.specs.declared.rows.Quota.{Quota}
 use Rattle.model_catalogue.specs.CatalogueLists.{quota_at}
 use Rattle.model_rows.specs.declared.changes.Change.{Change}
@@ -17,8 +17,7 @@ use Rattle.book_tally.specs.declared.shifts.QuotaShift.{QuotaShift}
 use Rattle.book_tally.specs.declared.shifts.VoucherShift.{VoucherShift}
 use Rattle.book_tally.specs.Amounts.{plus}
 use Rattle.book_tally.specs.Shifts.{come_by, gone_by, quota_shift_at}
-use Rattle.book_count_rows.specs.Due.{due_quotas}
-use Rattle.book_count_rows.specs.Told.{AreOrdered, has_count, has_voucher, told_if, told_unless}
+use Rattle.book_count_rows.specs.Told.{has_count, has_voucher, told_if, told_unless}
 
 -- the quota that a change puts
 abbrev pub quotas_by : Change → List ℕ
@@ -48,6 +47,10 @@ abbrev pub same_as : Usage → Option Usage → Bool
 same_as usage None = false
 same_as usage (Some known) = same_usage usage known
 
+-- what uses a quota at the office's own moment
+abbrev pub used_now : State → Quota → Usage
+used_now state quota = usage_of state.lists state.moment quota
+
 -- the count of a quota at a moment, by the rows before changes and what these shift
 abbrev pub count_by_shift : State → ℕ → List QuotaShift → Quota → QuotaCount
 count_by_shift state at shifts quota = record { quota = quota.id; usage = shifted (usage_of state.lists at quota) (quota_shift_at quota.id shifts) }
@@ -76,10 +79,7 @@ voucher_told_by state shift = if shift.stands then told_unless (has_voucher stat
 abbrev pub gone_told_by : State → VoucherShift → List ℕ
 gone_told_by state shift = if not shift.stands && is_some (voucher_at shift.voucher state.lists) then shift.voucher ∷ [] else []
 
--- what is known of a book, of changes and of what these shift
-pub record IsWalk (state : State) (changes : List Change) (shifts : List QuotaShift) (at : ℕ) (puts dues : List ℕ) : Type 0 where
-  pub past : state.moment ≤ at
-  pub ordered : AreOrdered state.lists
-  pub order : AreInOrder (λ s. s.quota) shifts
-  pub put : puts ≡ rising (flat_map quotas_by changes)
-  pub due : dues ≡ rising (due_quotas state.moment at state.lists)
+-- that ids rise has one proof at most, as a ghost field asks
+pub in_order_prop : {T : Type 0} (key : T → ℕ) (n : ℕ) (rows : List T) → IsProp (InOrderFrom key n rows)
+in_order_prop key n [] = Unit-prop
+in_order_prop key n (r ∷ rs) = ×_prop le_prop (in_order_prop key (key r + 1) rs)

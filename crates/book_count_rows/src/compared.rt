@@ -1,9 +1,9 @@
 //! Which counts differ from one book to another.
 
-ghost use Rattle.std.specs.Prelude.{◌≡◌, ◌++◌, [], ◌∷◌, IfOk, OnOk, flat_map, is_none, if◌then◌else◌};
+ghost use Rattle.std.specs.Prelude.{◌≡◌, [], ◌∷◌, IfOk, flat_map, is_none, if◌then◌else◌};
 ghost use Rattle.model_rows.specs.Lists.{voucher_at};
 ghost use Rattle.model_rows.specs.CountRows.{counts_after};
-ghost use Rattle.book_count_rows.specs.Told.{from_to, quota_told, voucher_told, gone_told};
+ghost use Rattle.book_count_rows.specs.Told.{Adds, from_to, quota_told, voucher_told, gone_told};
 
 use crate::exits::exits_that_differ;
 use crate::recounts::recount;
@@ -57,8 +57,8 @@ fn add_quota<A: Book, C: Book>(
     quota: &Quota,
     rows: &mut Vec<QuotaCount>,
 ) -> Result<(), AllocError>
-    ensures { OnOk result (rows.new.items ≡ rows.old.items
-        ++ quota_told (from_to (A.state before.now) (C.state after.now)) quota.now) }
+    ensures { Adds result rows.old rows.new
+        (quota_told (from_to (A.state before.now) (C.state after.now)) quota.now) }
 {
     let count = QuotaCount {
         quota: quota.id,
@@ -91,8 +91,8 @@ fn add_voucher<A: Book, C: Book>(
     voucher: &Voucher,
     rows: &mut Vec<VoucherCount>,
 ) -> Result<(), AllocError>
-    ensures { OnOk result (rows.new.items ≡ rows.old.items
-        ++ voucher_told (from_to (A.state before.now) (C.state after.now)) voucher.now) }
+    ensures { Adds result rows.old rows.new
+        (voucher_told (from_to (A.state before.now) (C.state after.now)) voucher.now) }
 {
     let count = VoucherCount {
         voucher: voucher.id,
@@ -117,8 +117,8 @@ fn gone<A: Book, C: Book>(alloc: Global, before: &A, after: &C) -> Result<Vec<u6
 
 // Adds the id of a voucher, if it doesn't stand.
 fn add_gone<C: Book>(after: &C, id: u64, ids: &mut Vec<u64>) -> Result<(), AllocError>
-    ensures { OnOk result (ids.new.items ≡ ids.old.items
-        ++ (if is_none (voucher_at id (C.state after.now).lists) then id ∷ [] else [])) }
+    ensures { Adds result ids.old ids.new
+        (if is_none (voucher_at id (C.state after.now).lists) then id ∷ [] else []) }
 {
     if after.voucher(id).is_none() {
         Ok(ids.push(id)?)

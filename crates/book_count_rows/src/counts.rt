@@ -7,7 +7,7 @@ ghost use Rattle.book_tally.specs.Shifts.{AreShifts};
 
 use crate::due::due_quotas;
 use crate::exits::exits_that_differ;
-use crate::walk::{Walk, put_quotas};
+use crate::walk::{Walk, ids_rise, put_quotas};
 use base_values::Moment;
 use book_tally::Shifts;
 use book_usage::Dues;
@@ -33,16 +33,17 @@ pub fn counts_by_shifts<B: Dues>(
     ensures { IfOk result (λ rows. rows
         ≡ counts_after (B.state book.now) (applied changes.now at (B.state book.now))) }
 {
-    book.known();
-    book.catalogue().known();
+    ids_rise(book);
     let changes = changes.as_slice();
+    let put = put_quotas(alloc, changes)?;
+    let due = due_quotas(book, alloc, at)?;
     let walk = Walk {
         book,
         changes,
         shifts,
         at,
-        put: put_quotas(alloc, changes)?,
-        due: due_quotas(book, alloc, at)?,
+        put: &put,
+        due: &due,
     };
     let ids = walk.asked(alloc)?;
     let quotas = walk.quotas(alloc, ids.as_slice())?;

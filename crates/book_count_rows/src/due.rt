@@ -1,10 +1,10 @@
 //! The quotas of which less or more may be used since a book's moment, because something came due.
 
-ghost use Rattle.std.specs.Prelude.{◌≡◌, ◌≤◌, ◌++◌, IfOk, OnOk, flat_map};
+ghost use Rattle.std.specs.Prelude.{◌≡◌, ◌≤◌, IfOk};
 ghost use Rattle.base_sorted.specs.Rising.{rising};
-ghost use Rattle.model_catalogue.specs.CatalogueLists.{quotas_of};
+ghost use Rattle.model_catalogue.specs.Kept.{quotas_of};
 ghost use Rattle.book_count_rows.specs.Due.{ids_naming, quotas_sold, hit_by, quotas_hit, due_quotas};
-ghost use Rattle.book_count_rows.specs.Told.{told_if};
+ghost use Rattle.book_count_rows.specs.Told.{Adds, AddsEach, told_if};
 
 use base_sorted::Ids;
 use base_values::Moment;
@@ -36,8 +36,7 @@ fn add_naming_each<B: Book>(
     vouchers: &[u64],
     ids: &mut Vec<u64>,
 ) -> Result<(), AllocError>
-    ensures { OnOk result (ids.new.items
-        ≡ ids.old.items ++ flat_map (ids_naming (B.state book.now).lists) vouchers.now) }
+    ensures { AddsEach result ids.old ids.new (ids_naming (B.state book.now).lists) vouchers.now }
 {
     for voucher in vouchers {
         add_naming(book, alloc, *voucher, ids)?;
@@ -52,8 +51,7 @@ fn add_naming<B: Book>(
     voucher: u64,
     ids: &mut Vec<u64>,
 ) -> Result<(), AllocError>
-    ensures { OnOk result (ids.new.items
-        ≡ ids.old.items ++ ids_naming (B.state book.now).lists voucher) }
+    ensures { Adds result ids.old ids.new (ids_naming (B.state book.now).lists voucher) }
 {
     let more = book.carts_naming(alloc, voucher)?;
     Ok(ids.extend_from_slice(&more)?)
@@ -66,8 +64,8 @@ fn add_sold_each<B: Book>(
     carts: &[u64],
     quotas: &mut Vec<u64>,
 ) -> Result<(), AllocError>
-    ensures { OnOk result (quotas.new.items
-        ≡ quotas.old.items ++ flat_map (quotas_sold (B.state book.now).lists) carts.now) }
+    ensures { AddsEach result quotas.old quotas.new
+        (quotas_sold (B.state book.now).lists) carts.now }
 {
     for id in carts {
         add_sold(book, alloc, *id, quotas)?;
@@ -82,8 +80,7 @@ fn add_sold<B: Book>(
     id: u64,
     quotas: &mut Vec<u64>,
 ) -> Result<(), AllocError>
-    ensures { OnOk result (quotas.new.items
-        ≡ quotas.old.items ++ quotas_sold (B.state book.now).lists id) }
+    ensures { Adds result quotas.old quotas.new (quotas_sold (B.state book.now).lists id) }
 {
     match book.cart(id) {
         None => Ok(()),
@@ -98,8 +95,8 @@ fn add_hit_each<B: Book>(
     vouchers: &[u64],
     quotas: &mut Vec<u64>,
 ) -> Result<(), AllocError>
-    ensures { OnOk result (quotas.new.items
-        ≡ quotas.old.items ++ flat_map (quotas_hit (B.state book.now).lists) vouchers.now) }
+    ensures { AddsEach result quotas.old quotas.new
+        (quotas_hit (B.state book.now).lists) vouchers.now }
 {
     for id in vouchers {
         add_hit(book, alloc, *id, quotas)?;
@@ -114,8 +111,7 @@ fn add_hit<B: Book>(
     id: u64,
     quotas: &mut Vec<u64>,
 ) -> Result<(), AllocError>
-    ensures { OnOk result (quotas.new.items
-        ≡ quotas.old.items ++ quotas_hit (B.state book.now).lists id) }
+    ensures { Adds result quotas.old quotas.new (quotas_hit (B.state book.now).lists id) }
 {
     match book.voucher(id) {
         None => Ok(()),
@@ -130,8 +126,8 @@ fn add_hit_by<B: Book>(
     voucher: &Voucher,
     quotas: &mut Vec<u64>,
 ) -> Result<(), AllocError>
-    ensures { OnOk result (quotas.new.items
-        ≡ quotas.old.items ++ hit_by (B.state book.now).lists.catalogue voucher.now) }
+    ensures { Adds result quotas.old quotas.new
+        (hit_by (B.state book.now).lists.catalogue voucher.now) }
 {
     match voucher.quota {
         Some(id) => Ok(quotas.push(id)?),
@@ -152,9 +148,8 @@ fn add_quotas_of<B: Book>(
     product: Option<Product>,
     quotas: &mut Vec<u64>,
 ) -> Result<(), AllocError>
-    ensures { OnOk result (quotas.new.items
-        ≡ quotas.old.items
-        ++ told_if (λ p. quotas_of p (B.state book.now).lists.catalogue) product) }
+    ensures { Adds result quotas.old quotas.new
+        (told_if (λ p. quotas_of p (B.state book.now).lists.catalogue) product) }
 {
     match product {
         None => Ok(()),

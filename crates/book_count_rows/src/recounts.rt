@@ -1,8 +1,9 @@
 //! What uses a quota, counted over all rows of a book.
 
-ghost use Rattle.std.specs.Prelude.{◌≡◌, ◌≤◌, count_by, sum_by};
+ghost use Rattle.std.specs.Prelude.{◌≡◌, ◌≤◌, count_by};
 ghost use Rattle.model_rows.specs.Conditions.{is_paid, is_pending};
 ghost use Rattle.model_rows.specs.Usage.{usage_of, position_counts, is_released, exit_counts, blocked_by, is_covered, cart_counts, waits_for};
+ghost use Rattle.book_usage.specs.Counts.{paid_in, pending_in, exited_in, blocked_in, carts_in_quota};
 
 use base_values::Moment;
 use book_usage::Book;
@@ -29,9 +30,7 @@ pub fn recount<B: Book>(book: &B, quota: &Quota, at: Moment) -> Usage
 
 // The positions of paid orders.
 fn paid_in<B: Book>(book: &B, quota: &Quota) -> u64
-    ensures { result ≡ count_by
-        (position_counts is_paid (B.state book.now).lists quota.now)
-        (B.state book.now).lists.positions }
+    ensures { result ≡ paid_in (B.state book.now).lists quota.now }
 {
     let positions = book.positions();
     positions
@@ -48,9 +47,7 @@ fn is_paid_in<B: Book>(book: &B, quota: &Quota, position: &OrderPos) -> bool
 
 // The positions of pending orders.
 fn pending_in<B: Book>(book: &B, quota: &Quota) -> u64
-    ensures { result ≡ count_by
-        (position_counts is_pending (B.state book.now).lists quota.now)
-        (B.state book.now).lists.positions }
+    ensures { result ≡ pending_in (B.state book.now).lists quota.now }
 {
     let positions = book.positions();
     positions
@@ -67,8 +64,7 @@ fn is_pending_in<B: Book>(book: &B, quota: &Quota, position: &OrderPos) -> bool
 
 // The places that vouchers block.
 fn blocked_in<B: Book>(book: &B, quota: &Quota, at: Moment) -> u64
-    ensures { result ≡ sum_by
-        (blocked_by (B.state book.now).lists at quota.now) (B.state book.now).lists.vouchers }
+    ensures { result ≡ blocked_in (B.state book.now).lists at quota.now }
 {
     book.known();
     let mut blocked = 0;
@@ -93,8 +89,7 @@ fn blocked_by<B: Book>(book: &B, quota: &Quota, at: Moment, voucher: &Voucher) -
 
 // The cart positions.
 fn carts_in<B: Book>(book: &B, quota: &Quota, at: Moment) -> u64
-    ensures { result ≡ count_by
-        (cart_counts (B.state book.now).lists at quota.now) (B.state book.now).lists.carts }
+    ensures { result ≡ carts_in_quota (B.state book.now).lists at quota.now }
 {
     let carts = book.carts();
     carts
@@ -129,8 +124,7 @@ fn waiting_in<B: Book>(book: &B, quota: &Quota) -> u64
 
 // The positions of paid orders that have gone out, where the quota releases places.
 fn exited_in<B: Book>(book: &B, quota: &Quota) -> u64
-    ensures { result ≡ count_by
-        (exit_counts (B.state book.now).lists quota.now) (B.state book.now).lists.positions }
+    ensures { result ≡ exited_in (B.state book.now).lists quota.now }
 {
     let positions = book.positions();
     positions

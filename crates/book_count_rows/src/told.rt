@@ -1,10 +1,10 @@
 //! Counts that are shifted, and whether a book has them.
 
-ghost use Rattle.std.specs.Prelude.{◌≡◌, ◌≤◌, ◌+◌, ◌-◌, ◌++◌, ◌==◌, ◌&&◌, IfOk, OnOk, Some};
+ghost use Rattle.std.specs.Prelude.{◌≡◌, ◌≤◌, ◌+◌, ◌-◌, ◌==◌, ◌&&◌, IfOk, Some};
 ghost use Rattle.std.specs.Option.{option_copied};
 ghost use Rattle.model_rows.specs.CountRows.{same_usage};
 ghost use Rattle.model_rows.specs.Usage.{redeemed, spent};
-ghost use Rattle.book_count_rows.specs.Told.{has_count, has_exits, has_voucher, told_unless};
+ghost use Rattle.book_count_rows.specs.Told.{Adds, has_count, has_exits, has_voucher, told_unless};
 ghost use Rattle.book_count_rows.specs.Walked.{shifted, same_as};
 
 use book_tally::QuotaShift;
@@ -148,7 +148,7 @@ fn has_numbers<B: Book>(book: &B, count: VoucherCount) -> bool
 
 /// Adds a row, unless it is known.
 pub fn add_unless<T: Copy>(known: bool, row: T, rows: &mut Vec<T>) -> Result<(), AllocError>
-    ensures { OnOk result (rows.new.items ≡ rows.old.items ++ told_unless known row) }
+    ensures { Adds result rows.old rows.new (told_unless known row) }
 {
     if known { Ok(()) } else { Ok(rows.push(row)?) }
 }

@@ -1,6 +1,6 @@
 //! A walk over what changes shift: which counts differ after them.
 
-ghost use Rattle.std.specs.Prelude.{◌≡◌, ◌++◌, IfOk, OnOk, true, map, flat_map, option_map, Some};
+ghost use Rattle.std.specs.Prelude.{◌≡◌, ◌≤◌, ◌++◌, IfOk, true, map, flat_map, option_map, Some};
 ghost use Rattle.std.specs.Bool.{Decides};
 ghost use Rattle.std.specs.Option.{option_copied};
 ghost use Rattle.base_sorted.specs.Rising.{rising};
@@ -10,7 +10,8 @@ ghost use Rattle.model_rows.specs.Change.{after_all};
 ghost use Rattle.model_rows.specs.Usage.{usage_of};
 ghost use Rattle.book_tally.specs.Shifts.{quota_shift_at};
 ghost use Rattle.book_count_rows.specs.Due.{due_quotas};
-ghost use Rattle.book_count_rows.specs.Walked.{quotas_by, quota_with, quota_after, told_by_shift, told_at, voucher_told_by, gone_told_by, IsWalk};
+ghost use Rattle.book_count_rows.specs.Told.{Adds, AreOrdered};
+ghost use Rattle.book_count_rows.specs.Walked.{quotas_by, quota_with, quota_after, told_by_shift, told_at, voucher_told_by, gone_told_by, used_now, in_order_prop};
 
 use crate::recounts::recount;
 use crate::told::{add_unless, has_voucher, moved, moved_cents, same_as, shifted};
@@ -30,8 +31,13 @@ pub struct Walk<'w, B: Book> {
     pub changes: &'w [Change],
     pub shifts: &'w Shifts,
     pub at: Moment,
-    pub put: Ids,
-    pub due: Ids,
+    pub put: &'w Ids,
+    pub due: &'w Ids,
+    ghost past: { (B.state book.now).moment ≤ at },
+    ghost order: { AreInOrder (λ s. s.quota) shifts.now.quotas.items } by { in_order_prop (λ s. s.quota) 0 shifts.now.quotas.items },
+    ghost puts: { put.now ≡ rising (flat_map quotas_by changes.now) },
+    ghost dues: { due.now
+        ≡ rising (due_quotas (B.state book.now).moment at (B.state book.now).lists) },
 }
 
 // What uses a quota at a moment by the rows before changes, and what used it by the same rows at the book's moment, if it stood.
@@ -46,7 +52,7 @@ impl<'w, B: Book> Walk<'w, B> {
     pub fn asked(&self, alloc: Global) -> Result<Ids, AllocError>
         ensures { IfOk result (λ ids. ids
             ≡ rising (map (λ s. s.quota) self.now.shifts.now.quotas.items
-            ++ self.now.put ++ self.now.due)) }
+            ++ self.now.put.now ++ self.now.due.now)) }
     {
         let mut ids = ids_of(alloc, &self.shifts.quotas)?;
         ids.extend_from_slice(self.put.as_slice())?;
@@ -56,8 +62,6 @@ impl<'w, B: Book> Walk<'w, B> {
 
     /// The counts of the quotas of these ids that differ.
     pub fn quotas(&self, alloc: Global, ids: &[u64]) -> Result<Vec<QuotaCount>, AllocError>
-        requires { IsWalk (B.state self.now.book.now) self.now.changes.now
-            self.now.shifts.now.quotas.items self.now.at self.now.put self.now.due }
         ensures { IfOk result (λ rows. rows.items ≡ flat_map
             (told_at (B.state self.now.book.now) self.now.changes.now self.now.at
             self.now.shifts.now.quotas.items)
@@ -72,11 +76,8 @@ impl<'w, B: Book> Walk<'w, B> {
 
     // Adds the count of the quota of an id, if it stands and its count differs.
     fn add_quota(&self, id: u64, rows: &mut Vec<QuotaCount>) -> Result<(), AllocError>
-        requires { IsWalk (B.state self.now.book.now) self.now.changes.now
-            self.now.shifts.now.quotas.items self.now.at self.now.put self.now.due }
-        ensures { OnOk result (rows.new.items ≡ rows.old.items
-            ++ told_at (B.state self.now.book.now) self.now.changes.now self.now.at
-            self.now.shifts.now.quotas.items id) }
+        ensures { Adds result rows.old rows.new (told_at (B.state self.now.book.now)
+            self.now.changes.now self.now.at self.now.shifts.now.quotas.items id) }
     {
         match self.quota(id) {
             None => Ok(()),
@@ -86,12 +87,10 @@ impl<'w, B: Book> Walk<'w, B> {
 
     // Adds the count of a quota, if it differs.
     fn add_count(&self, quota: &Quota, rows: &mut Vec<QuotaCount>) -> Result<(), AllocError>
-        requires { IsWalk (B.state self.now.book.now) self.now.changes.now
-            self.now.shifts.now.quotas.items self.now.at self.now.put self.now.due }
-        ensures { OnOk result (rows.new.items ≡ rows.old.items
-            ++ told_by_shift (B.state self.now.book.now) self.now.at
-            self.now.shifts.now.quotas.items quota.now) }
+        ensures { Adds result rows.old rows.new (told_by_shift
+            (B.state self.now.book.now) self.now.at self.now.shifts.now.quotas.items quota.now) }
     {
+        ids_rise(self.book);
         let known = self.known(quota);
         let usage = shifted(known.base, shift_of(&self.shifts.quotas, quota.id))?;
         let count = QuotaCount {
@@ -103,8 +102,6 @@ impl<'w, B: Book> Walk<'w, B> {
 
     // The quota of an id after the changes.
     fn quota(&self, id: u64) -> Option<&Quota>
-        requires { IsWalk (B.state self.now.book.now) self.now.changes.now
-            self.now.shifts.now.quotas.items self.now.at self.now.put self.now.due }
         ensures { option_copied result
             ≡ quota_at id
             (after_all self.now.changes.now (B.state self.now.book.now).lists).catalogue }
@@ -119,12 +116,9 @@ impl<'w, B: Book> Walk<'w, B> {
 
     // What uses a quota by the rows before the changes.
     fn known(&self, quota: &Quota) -> Known
-        requires { IsWalk (B.state self.now.book.now) self.now.changes.now
-            self.now.shifts.now.quotas.items self.now.at self.now.put self.now.due }
         ensures base { result.base
             ≡ usage_of (B.state self.now.book.now).lists self.now.at quota.now }
-        ensures had { result.had ≡ option_map
-            (usage_of (B.state self.now.book.now).lists (B.state self.now.book.now).moment)
+        ensures had { result.had ≡ option_map (used_now (B.state self.now.book.now))
             (quota_at quota.now.id (B.state self.now.book.now).lists.catalogue) }
     {
         match self.book.catalogue().quota(quota.id) {
@@ -138,14 +132,11 @@ impl<'w, B: Book> Walk<'w, B> {
 
     // The same of a quota that stood. Unless its products change, or whether it releases places, the book knows it.
     fn known_by(&self, old: &Quota, quota: &Quota) -> Known
-        requires walk { IsWalk (B.state self.now.book.now) self.now.changes.now
-            self.now.shifts.now.quotas.items self.now.at self.now.put self.now.due }
-        requires stood { quota_at quota.now.id (B.state self.now.book.now).lists.catalogue
+        requires { quota_at quota.now.id (B.state self.now.book.now).lists.catalogue
             ≡ Some old.now }
         ensures base { result.base
             ≡ usage_of (B.state self.now.book.now).lists self.now.at quota.now }
-        ensures had { result.had ≡ Some (usage_of (B.state self.now.book.now).lists
-            (B.state self.now.book.now).moment old.now) }
+        ensures had { result.had ≡ Some (used_now (B.state self.now.book.now) old.now) }
     {
         if has_same_members(old, quota) {
             self.known_as(old)
@@ -159,15 +150,13 @@ impl<'w, B: Book> Walk<'w, B> {
 
     // The same of a quota as it stood. Where nothing that came due reaches it, it is used as before.
     fn known_as(&self, quota: &Quota) -> Known
-        requires walk { IsWalk (B.state self.now.book.now) self.now.changes.now
-            self.now.shifts.now.quotas.items self.now.at self.now.put self.now.due }
-        requires stood { quota_at quota.now.id (B.state self.now.book.now).lists.catalogue
+        requires { quota_at quota.now.id (B.state self.now.book.now).lists.catalogue
             ≡ Some quota.now }
         ensures base { result.base
             ≡ usage_of (B.state self.now.book.now).lists self.now.at quota.now }
-        ensures had { result.had ≡ Some (usage_of (B.state self.now.book.now).lists
-            (B.state self.now.book.now).moment quota.now) }
+        ensures had { result.had ≡ Some (used_now (B.state self.now.book.now) quota.now) }
     {
+        ids_rise(self.book);
         let base = usage_of(self.book, quota, self.at);
         if self.due.has(quota.id) {
             let had = usage_of(self.book, quota, self.book.moment());
@@ -208,6 +197,14 @@ impl<'w, B: Book> Walk<'w, B> {
     }
 }
 
+/// In a book's tables of quotas, vouchers and cart positions ids rise.
+pub fn ids_rise<B: Book>(book: &B)
+    ensures { AreOrdered (B.state book.now).lists }
+{
+    book.known();
+    book.catalogue().known();
+}
+
 // The ids of the quotas of these shifts.
 fn ids_of(alloc: Global, shifts: &[QuotaShift]) -> Result<Vec<u64>, AllocError>
     ensures { IfOk result (λ ids. ids.items ≡ map (λ s. s.quota) shifts.now) }
@@ -228,7 +225,7 @@ pub fn put_quotas(alloc: Global, changes: &[Change]) -> Result<Ids, AllocError>
 
 // Adds that of one change.
 fn add_put(change: &Change, ids: &mut Vec<u64>) -> Result<(), AllocError>
-    ensures { OnOk result (ids.new.items ≡ ids.old.items ++ quotas_by change.now) }
+    ensures { Adds result ids.old ids.new (quotas_by change.now) }
 {
     match change {
         Change::PutQuota(row) => Ok(ids.push(row.id)?),
@@ -292,8 +289,7 @@ fn add_voucher<B: Book>(
     shift: &VoucherShift,
     rows: &mut Vec<VoucherCount>,
 ) -> Result<(), AllocError>
-    ensures { OnOk result (rows.new.items
-        ≡ rows.old.items ++ voucher_told_by (B.state book.now) shift.now) }
+    ensures { Adds result rows.old rows.new (voucher_told_by (B.state book.now) shift.now) }
 {
     if !shift.stands {
         return Ok(());
@@ -309,8 +305,7 @@ fn add_voucher<B: Book>(
 
 // Adds the id of a voucher that stood, if it doesn't stand any more.
 fn add_gone<B: Book>(book: &B, shift: &VoucherShift, ids: &mut Vec<u64>) -> Result<(), AllocError>
-    ensures { OnOk result (ids.new.items
-        ≡ ids.old.items ++ gone_told_by (B.state book.now) shift.now) }
+    ensures { Adds result ids.old ids.new (gone_told_by (B.state book.now) shift.now) }
 {
     if !shift.stands && book.voucher(shift.voucher).is_some() {
         Ok(ids.push(shift.voucher)?)

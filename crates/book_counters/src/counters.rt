@@ -40,22 +40,21 @@ pub struct Counters {
 }
 
 impl Model for Counters {
-    ghost use Rattle.std.specs.Prelude.{min, ◌-◌, length, vec_capacity};
+    ghost use Rattle.std.specs.Prelude.{min};
     ghost use Rattle.book_usage.specs.BookView.{BookView};
-    ghost use Rattle.book_counters.specs.Counted.{IsAllCounted};
+    ghost use Rattle.book_deltas.specs.Beside.{room_left};
+    ghost use Rattle.book_settle.specs.Settled.{AllCounted};
 
     ghost Value = { BookView };
 
     ghost view = { λ c. record {
       state = c.store.state;
-      room = min c.store.room (min (vec_capacity c.usages - length c.usages.items)
-          (min (vec_capacity c.redeems - length c.redeems.items) (min
-          (vec_capacity c.spents - length c.spents.items)
-          (vec_capacity c.holds - length c.holds.items))));
+      room = min c.store.room (min (room_left c.usages)
+          (min (room_left c.redeems) (min (room_left c.spents) (room_left c.holds))));
     } };
 
-    ghost invariant = { λ c. IsAllCounted c.store.state.lists c.store.state.moment c.usages.items
-        c.redeems.items c.spents.items c.holds.items };
+    ghost invariant = { λ c. AllCounted c.store.state c.usages.items c.redeems.items c.spents.items
+        c.holds.items };
 }
 
 impl Counters {

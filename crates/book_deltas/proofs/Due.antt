@@ -37,7 +37,8 @@ module _ (quota : Quota) (lists : Lists) (at later : ℕ) (le : at ≤ later) wh
   abbrev pub is_freed : List Voucher → CartPos → Bool
   is_freed vouchers cart = (is_live_cart later cart && is_in quota cart.product) && released_by vouchers cart.voucher
 
-  weigh : (now before in_it block hit live_now live_before : Bool) → (now ≡ true → before ≡ true) → (live_now ≡ true → live_before ≡ true) → one (now && in_it && not ((block && live_now) && hit)) + one ((before && not now) && (before && in_it && not ((block && live_before) && hit))) ≡ one (before && in_it && not ((block && live_before) && hit)) + one ((now && in_it) && (((block && live_before) && hit) && not live_now))
+  weigh : (now before in_it block hit live_now live_before : Bool) → (now ≡ true → before ≡ true) → (live_now ≡ true → live_before ≡ true)
+      → one (now && in_it && not ((block && live_now) && hit)) + one ((before && not now) && (before && in_it && not ((block && live_before) && hit))) ≡ one (before && in_it && not ((block && live_before) && hit)) + one ((now && in_it) && (((block && live_before) && hit) && not live_now))
   weigh true false i b h l k p q = absurd (cc (p refl))
   weigh n m i b h true false p q = absurd (cc (q refl))
   weigh false false i b h l k p q = omega arith
@@ -67,11 +68,13 @@ module _ (quota : Quota) (lists : Lists) (at later : ℕ) (le : at ≤ later) wh
   weigh_plain false false true p = refl
   weigh_plain false false false p = refl
 
-  weigh_by : (cart : CartPos) (found : Option Voucher) → one (is_live_cart later cart && is_in quota cart.product && not (blocks_if later quota found)) + one (has_lapsed cart && (is_live_cart at cart && is_in quota cart.product && not (blocks_if at quota found))) ≡ one (is_live_cart at cart && is_in quota cart.product && not (blocks_if at quota found)) + one ((is_live_cart later cart && is_in quota cart.product) && released_if found)
+  weigh_by : (cart : CartPos) (found : Option Voucher)
+      → one (is_live_cart later cart && is_in quota cart.product && not (blocks_if later quota found)) + one (has_lapsed cart && (is_live_cart at cart && is_in quota cart.product && not (blocks_if at quota found))) ≡ one (is_live_cart at cart && is_in quota cart.product && not (blocks_if at quota found)) + one ((is_live_cart later cart && is_in quota cart.product) && released_if found)
   weigh_by cart None = weigh_plain (is_live_cart later cart) (is_live_cart at cart) (is_in quota cart.product) (still cart.expires)
   weigh_by cart (Some v) = weigh (is_live_cart later cart) (is_live_cart at cart) (is_in quota cart.product) v.block_quota (hits quota v) (is_live_voucher later v) (is_live_voucher at v) (still cart.expires) (ended v.valid_until)
 
-  weigh_cart : (cart : CartPos) (name : Option ℕ) → one (is_live_cart later cart && is_in quota cart.product && not (is_covered_by lists later quota name)) + one (has_lapsed cart && (is_live_cart at cart && is_in quota cart.product && not (is_covered_by lists at quota name))) ≡ one (is_live_cart at cart && is_in quota cart.product && not (is_covered_by lists at quota name)) + one ((is_live_cart later cart && is_in quota cart.product) && released_by lists.vouchers name)
+  weigh_cart : (cart : CartPos) (name : Option ℕ)
+      → one (is_live_cart later cart && is_in quota cart.product && not (is_covered_by lists later quota name)) + one (has_lapsed cart && (is_live_cart at cart && is_in quota cart.product && not (is_covered_by lists at quota name))) ≡ one (is_live_cart at cart && is_in quota cart.product && not (is_covered_by lists at quota name)) + one ((is_live_cart later cart && is_in quota cart.product) && released_by lists.vouchers name)
   weigh_cart cart None = weigh_by cart None
   weigh_cart cart (Some id) = weigh_by cart (voucher_at id lists)
 

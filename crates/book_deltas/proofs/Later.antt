@@ -14,7 +14,7 @@ use Rattle.model_rows.specs.Lists.{Lists, voucher_at}
 use Rattle.model_rows.proofs.EachRow.{key-row_at}
 use Rattle.model_rows.specs.Kept.{IsKept}
 use Rattle.model_rows.specs.Usage.{redeemed, cart_counts, usage_of}
-use Rattle.model_rows.specs.Headroom.{held_in}
+use Rattle.model_rows.specs.Asked.{held_in}
 use Rattle.model_rows.specs.CameDue.{ends_between, is_due_cart, is_due_voucher, is_due_if, names_due_by, names_due, naming_due}
 use Rattle.book_deltas.specs.Names.{passes_if, names_one}
 use Rattle.book_deltas.specs.Later.{Stands, release_if, free_if, naming_if}

@@ -8,7 +8,7 @@ use Rattle.model_rows.specs.Lists.{Lists}
 use Rattle.model_rows.specs.CameDue.{is_due_cart}
 use Rattle.model_rows.specs.Conditions.{names, holds, is_live_cart}
 use Rattle.model_catalogue.specs.Member.{is_in}
-use Rattle.model_rows.specs.Headroom.{held_in}
+use Rattle.model_rows.specs.Asked.{held_in}
 use Rattle.model_rows.specs.Usage.{cart_counts}
 use Rattle.book_store.specs.Walks.{one_if}
 use Rattle.book_indexes.proofs.EntryLemmas.{sums_like}

@@ -1,18 +1,14 @@
 -- What a walk over what came due counts of each row.
 use Rattle.std.specs.Prelude.{◌≡◌, ◌≤◌, ℕ, ◌+◌, ◌-◌, Bool, ◌&&◌, List, Option, Some, None, count_by, sum_by, if◌then◌else◌}
-use Rattle.std.specs.List.{AllByRecursion}
 use Rattle.base_sorted.specs.Tables.{sum_at}
 use Rattle.model_catalogue.specs.declared.rows.Quota.{Quota}
 use Rattle.model_rows.specs.declared.rows.Voucher.{Voucher}
-use Rattle.model_rows.specs.declared.rows.Usage.{Usage}
-use Rattle.model_rows.specs.CameDue.{is_due_cart, is_due_voucher}
+use Rattle.model_rows.specs.CameDue.{is_due_voucher}
 use Rattle.model_rows.specs.Conditions.{hits}
 use Rattle.model_rows.specs.Lists.{Lists, State, voucher_at}
 use Rattle.model_rows.specs.Usage.{redeemed}
-use Rattle.model_rows.specs.Headroom.{held_in}
-use Rattle.book_usage.specs.Limits.{last_use}
+use Rattle.model_rows.specs.Asked.{held_in}
 use Rattle.book_usage.specs.Naming.{cart_names}
-use Rattle.book_deltas.specs.Usages.{AreUsages, AreRedeemed}
 
 -- the cart positions that name a voucher
 abbrev pub named_in : ℕ → Lists → ℕ
@@ -39,18 +35,6 @@ free_if lists at quota voucher = sum_at (λ v. if may_block quota v then held_in
 unfoldable pub naming_if : Lists → Option Voucher → ℕ
 naming_if lists voucher = sum_at (λ v. named_in v.id lists) voucher
 
--- how many cart positions have ended since the box office's moment, before another
-abbrev pub carts_due_by : State → ℕ → ℕ
-carts_due_by state at = count_by (is_due_cart state.moment at) state.lists.carts
-
 -- so many steps, one for each voucher that has ended since, and one for each cart position that names one of these
 abbrev pub with_release_steps : State → ℕ → ℕ → ℕ
 with_release_steps state at steps = steps + count_by (is_due_voucher state.moment at) state.lists.vouchers + sum_by (λ v. if is_due_voucher state.moment at v then naming_if state.lists (Some v) else 0) state.lists.vouchers
-
--- the numbers are those of the lists at the moment
-pub record IsCounted (lists : Lists) (at : ℕ) (used : List Usage) (spent : List ℕ) : Type 0 where
-  -- the usage of each quota
-  pub usages : AreUsages lists at used
-  -- how often each voucher is redeemed
-  pub redeems : AreRedeemed lists spent
-  pub small : AllByRecursion (λ v. v.max_usages ≤ last_use) lists.vouchers

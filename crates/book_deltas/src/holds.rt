@@ -1,7 +1,8 @@
 //! How many live cart positions name each voucher, kept beside the vouchers.
 
-ghost use Rattle.std.specs.Prelude.{◌≡◌, ◌≤◌, length, vec_capacity, Some, true, false};
+ghost use Rattle.std.specs.Prelude.{◌≡◌, ◌≤◌, ◌&&◌, count_by, length, vec_capacity, Some, true, false};
 ghost use Rattle.base_sorted.specs.Tables.{AreInOrder};
+ghost use Rattle.model_rows.specs.CameDue.{is_due_cart};
 ghost use Rattle.model_rows.specs.Change.{changed};
 ghost use Rattle.model_rows.specs.Headroom.{held};
 ghost use Rattle.model_rows.specs.Lists.{cart_at};
@@ -9,8 +10,8 @@ ghost use Rattle.book_store.specs.Walks.{one_if};
 ghost use Rattle.book_usage.specs.Limits.{most_listed};
 ghost use Rattle.book_usage.specs.Naming.{cart_names};
 ghost use Rattle.book_usage.specs.Shares.{held_name};
-ghost use Rattle.book_deltas.specs.Beside.{StepsBeside};
-ghost use Rattle.book_deltas.specs.Held.{AreHeld, AreHeldNow, ended_uses, named_by};
+ghost use Rattle.book_deltas.specs.Beside.{Stays, StepsBeside};
+ghost use Rattle.book_deltas.specs.Held.{AreHeld, AreHeldNow, named_by};
 ghost use Rattle.book_deltas.specs.Turns.{turn};
 
 use crate::turns::{turned, vouchers};
@@ -45,8 +46,7 @@ fn turn_one(vouchers: &[Voucher], counts: &mut Vec<u64>, name: Option<u64>, up: 
 pub fn hold_put(store: &Store, holds: &mut Vec<u64>, row: &CartPos)
     requires { AreHeldNow store.now.state holds.old.items }
     ensures held { AreHeldNow (changed (Change.PutCart row.now) store.now.state) holds.new.items }
-    ensures room { vec_capacity holds.new ≡ vec_capacity holds.old }
-    ensures same { length holds.new.items ≡ length holds.old.items }
+    ensures stays { Stays holds.old holds.new }
 {
     store.known();
     let at = store.moment();
@@ -59,8 +59,7 @@ pub fn hold_put(store: &Store, holds: &mut Vec<u64>, row: &CartPos)
 pub fn hold_drop(store: &Store, holds: &mut Vec<u64>, id: u64)
     requires { AreHeldNow store.now.state holds.old.items }
     ensures held { AreHeldNow (changed (Change.DropCart id) store.now.state) holds.new.items }
-    ensures room { vec_capacity holds.new ≡ vec_capacity holds.old }
-    ensures same { length holds.new.items ≡ length holds.old.items }
+    ensures stays { Stays holds.old holds.new }
 {
     store.known();
     let gone = held_name(store.moment(), store.cart(id));
@@ -82,8 +81,7 @@ pub fn hold_at(store: &Store, holds: &mut Vec<u64>, at: Moment)
     requires moment { store.now.state.moment ≤ at }
     requires held { AreHeldNow store.now.state holds.old.items }
     ensures held { AreHeld store.now.state.lists at holds.new.items }
-    ensures room { vec_capacity holds.new ≡ vec_capacity holds.old }
-    ensures same { length holds.new.items ≡ length holds.old.items }
+    ensures stays { Stays holds.old holds.new }
 {
     store.known();
     let ids = store.carts_due(store.moment(), at);
@@ -108,7 +106,8 @@ fn name_of(store: &Store, id: u64, voucher: u64) -> u64
 // How many cart positions name the voucher and have ended since the moment of the store, before another.
 fn ended_holds(store: &Store, voucher: u64, at: Moment) -> u64
     requires { store.now.state.moment ≤ at }
-    ensures value { result ≡ ended_uses store.now.state voucher at }
+    ensures value { result ≡ count_by (λ c. is_due_cart store.now.state.moment at c
+        && cart_names voucher c) store.now.state.lists.carts }
 {
     let mut count = 0;
     let ids = store.carts_due(store.moment(), at);

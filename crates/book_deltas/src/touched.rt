@@ -4,6 +4,7 @@ ghost use Rattle.std.specs.Prelude.{◌≡◌, ◌==◌, length, vec_capacity};
 ghost use Rattle.base_sorted.specs.Tables.{AreInOrder, has};
 ghost use Rattle.model_catalogue.specs.Member.{is_in};
 ghost use Rattle.model_rows.specs.Conditions.{hits, hits_by, hits_by_product};
+ghost use Rattle.book_deltas.specs.Beside.{Stays};
 ghost use Rattle.book_deltas.specs.Shifts.{AreShifted, only};
 
 use crate::shift::Shift;
@@ -36,8 +37,7 @@ fn shift_each<S: Shift>(quotas: &[Quota], usages: &mut Vec<Usage>, ids: &Found<'
     requires ready { S.ready shift.now }
     ensures items { AreShifted (only (λ q. has q.id ids.now) (S.shift shift.now))
         quotas.now usages.old usages.new }
-    ensures room { vec_capacity usages.new ≡ vec_capacity usages.old }
-    ensures same { length usages.new.items ≡ length usages.old.items }
+    ensures stays { Stays usages.old usages.new }
 {
     for place in 0..ids.len() {
         shift_one(quotas, usages, ids.at(place), shift);
@@ -55,8 +55,7 @@ pub fn shift_product<S: Shift>(
     requires ready { S.ready shift.now }
     ensures items { AreShifted (only (λ q. is_in q product) (S.shift shift.now))
         catalogue.now.lists.quotas usages.old usages.new }
-    ensures room { vec_capacity usages.new ≡ vec_capacity usages.old }
-    ensures same { length usages.new.items ≡ length usages.old.items }
+    ensures stays { Stays usages.old usages.new }
 {
     catalogue.known();
     let ids = catalogue.quotas_with(product);
@@ -74,8 +73,7 @@ pub fn shift_hit<S: Shift>(
     requires ready { S.ready shift.now }
     ensures items { AreShifted (only (λ q. hits q voucher.now) (S.shift shift.now))
         catalogue.now.lists.quotas usages.old usages.new }
-    ensures room { vec_capacity usages.new ≡ vec_capacity usages.old }
-    ensures same { length usages.new.items ≡ length usages.old.items }
+    ensures stays { Stays usages.old usages.new }
 {
     match voucher.quota {
         Some(id) => {
@@ -98,8 +96,7 @@ fn shift_target<S: Shift>(
     requires ready { S.ready shift.now }
     ensures items { AreShifted (only (λ q. hits_by_product q item variation) (S.shift shift.now))
         catalogue.now.lists.quotas usages.old usages.new }
-    ensures room { vec_capacity usages.new ≡ vec_capacity usages.old }
-    ensures same { length usages.new.items ≡ length usages.old.items }
+    ensures stays { Stays usages.old usages.new }
 {
     match item {
         None => {}

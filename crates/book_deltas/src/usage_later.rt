@@ -1,15 +1,16 @@
 //! What uses a quota at a later moment, by what has ended until then. Each row that is looked at for it is a step.
 
-ghost use Rattle.std.specs.Prelude.{◌≡◌, ◌≤◌, ◌+◌, is_some, true};
+ghost use Rattle.std.specs.Prelude.{◌≡◌, ◌≤◌, ◌+◌, count_by, is_some, true};
 ghost use Rattle.std.specs.Option.{option_copied};
-ghost use Rattle.model_rows.specs.Headroom.{held_in};
+ghost use Rattle.model_rows.specs.CameDue.{is_due_cart};
+ghost use Rattle.model_rows.specs.Asked.{held_in};
 ghost use Rattle.model_rows.specs.Lists.{voucher_at};
 ghost use Rattle.model_rows.specs.Usage.{redeemed, cart_counts};
 ghost use Rattle.book_usage.specs.Dues.{with_due_steps};
 ghost use Rattle.book_usage.specs.Limits.{last_use, most_listed};
 ghost use Rattle.book_store.specs.OneRow.{is_live_in};
 ghost use Rattle.book_store.specs.Walks.{one_if};
-ghost use Rattle.book_deltas.specs.Later.{named_in, release_if, free_if, naming_if, carts_due_by, with_release_steps, Stands};
+ghost use Rattle.book_deltas.specs.Later.{named_in, release_if, free_if, naming_if, with_release_steps, Stands};
 ghost use Rattle.book_deltas.specs.Shifts.{moved, lapsed, released, freed, time_shift};
 ghost use Rattle.book_deltas.specs.Usages.{AreRedeemed};
 
@@ -138,7 +139,8 @@ fn lapsed<L: Ledger>(ended: &Ended<'_, L>, quota: &Quota, at: Moment, steps: &mu
     requires { ended.now.state.moment ≤ at }
     ensures value { result ≡ lapsed ended.now.state.lists ended.now.state.moment at quota.now }
     ensures few { result ≤ most_listed }
-    ensures cost { steps.new ≡ steps.old + carts_due_by ended.now.state at }
+    ensures cost { steps.new ≡ steps.old
+        + count_by (is_due_cart ended.now.state.moment at) ended.now.state.lists.carts }
 {
     let from = ended.moment();
     let mut count = 0;

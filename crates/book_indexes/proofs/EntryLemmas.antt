@@ -207,9 +207,13 @@ module _ {T : Type 0} (keys : T → Keys) where
   group_if None = refl
   group_if (Some r) = refl
 
-module _ {T : Type 0} (id : T → ℕ) (keys : T → Keys) (rows : List T) (until named text group : List ℕ) (order : AreInOrder id rows) (indexed : AreIndexed id keys rows until named text group) (i : ℕ) (old : Keys) (small : i < 18446744073709551616) (was : old ≡ keys_if keys (row_at id i rows)) (rows_now : List T) (until_now named_now text_now group_now : List ℕ) (in_until : AreInOrder (λ n. n) until) (in_named : AreInOrder (λ n. n) named) (in_text : AreInOrder (λ n. n) text) (in_group : AreInOrder (λ n. n) group) where
+module _ {T : Type 0} (id : T → ℕ) (keys : T → Keys) (rows : List T) (until named text group : List ℕ) (order : AreInOrder id rows) (indexed : AreIndexed id keys rows until named text group) (i : ℕ)
+    (old : Keys) (small : i < 18446744073709551616) (was : old ≡ keys_if keys (row_at id i rows)) (rows_now : List T) (until_now named_now text_now group_now : List ℕ)
+    (in_until : AreInOrder (λ n. n) until) (in_named : AreInOrder (λ n. n) named) (in_text : AreInOrder (λ n. n) text) (in_group : AreInOrder (λ n. n) group) where
   -- a row was put, and each index has its new key for its old one
-  pub indexed_put : (row : T) (new : Keys) → i ≡ id row → new ≡ keys row → rows_now ≡ with_row id row rows → until_now ≡ with_entry i new.until (without_entry i old.until until) → named_now ≡ with_entry i new.named (without_entry i old.named named) → text_now ≡ with_entry i new.text (without_entry i old.text text) → group_now ≡ with_entry i new.group (without_entry i old.group group) → AreIndexed id keys rows_now until_now named_now text_now group_now
+  pub indexed_put : (row : T) (new : Keys) → i ≡ id row → new ≡ keys row → rows_now ≡ with_row id row rows → until_now ≡ with_entry i new.until (without_entry i old.until until)
+      → named_now ≡ with_entry i new.named (without_entry i old.named named) → text_now ≡ with_entry i new.text (without_entry i old.text text)
+      → group_now ≡ with_entry i new.group (without_entry i old.group group) → AreIndexed id keys rows_now until_now named_now text_now group_now
   indexed_put row new own is put e v t g = record {
     by_until = put_mirrors id (λ r. (keys r).until) rows until order in_until indexed.by_until row i old.until new.until until_now rows_now small own (ap (λ (k : Keys). k.until) was ∙ until_if keys (row_at id i rows)) (ap (λ (k : Keys). k.until) is) e put;
     by_named = put_mirrors id (λ r. (keys r).named) rows named order in_named indexed.by_named row i old.named new.named named_now rows_now small own (ap (λ (k : Keys). k.named) was ∙ named_if keys (row_at id i rows)) (ap (λ (k : Keys). k.named) is) v put;

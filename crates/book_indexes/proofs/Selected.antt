@@ -48,7 +48,9 @@ has_selected : {T : Type 0} (id : T → ℕ) (test : T → Bool) (k : ℕ) (rows
 has_selected id test k [] = refl
 has_selected id test k (r ∷ rs) = by_test (test r) (has_selected id test k rs) (sum_by-cons (λ s. if test s then one (eqb (id s) k) else 0) r rs) refl
   where
-    by_test : (b : Bool) → has k (map id (filter test rs)) ≡ some (sum_by (λ s. if test s then one (eqb (id s) k) else 0) rs) → sum_by (λ s. if test s then one (eqb (id s) k) else 0) (r ∷ rs) ≡ (if test r then one (eqb (id r) k) else 0) + sum_by (λ s. if test s then one (eqb (id s) k) else 0) rs → test r ≡ b → has k (map id (cond b (r ∷ filter test rs) (filter test rs))) ≡ some (sum_by (λ s. if test s then one (eqb (id s) k) else 0) (r ∷ rs))
+    by_test : (b : Bool) → has k (map id (filter test rs)) ≡ some (sum_by (λ s. if test s then one (eqb (id s) k) else 0) rs)
+        → sum_by (λ s. if test s then one (eqb (id s) k) else 0) (r ∷ rs) ≡ (if test r then one (eqb (id r) k) else 0) + sum_by (λ s. if test s then one (eqb (id s) k) else 0) rs → test r ≡ b
+        → has k (map id (cond b (r ∷ filter test rs) (filter test rs))) ≡ some (sum_by (λ s. if test s then one (eqb (id s) k) else 0) (r ∷ rs))
     by_test true more sum is = grind (arith, nat_tests, more, sum, is)
     by_test false more sum is = grind (arith, nat_tests, more, sum, is)
 

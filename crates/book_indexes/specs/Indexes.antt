@@ -1,5 +1,5 @@
 -- Indexes of rows by their keys, and what is found by them: what is added up over the rows is what adds up over the entries.
-use Rattle.std.specs.Prelude.{◌≡◌, ℕ, Bool, List, Option, Some, None, map, filter, sum_by, slice_index_or, if◌then◌else◌}
+use Rattle.std.specs.Prelude.{◌≡◌, ℕ, Bool, List, Option, Some, None, map, filter, sum_by, if◌then◌else◌}
 use Rattle.base_sorted.specs.Tables.{with_row, without_row, row_at}
 use Rattle.base_index.specs.Entries.{entry, key_of, id_of}
 use Rattle.book_indexes.specs.declared.keys.Keys.{Keys}
@@ -43,7 +43,3 @@ ids_passing id test rows = map id (filter test rows)
 pub record Walked (T : Type 0) : Type 0 where
   pub rows : List T
   pub ids : List ℕ
-
--- it is the row that stands at a place of the walk, if one does
-abbrev pub IsRowAt : {T : Type 0} → (T → ℕ) → Walked T → ℕ → Option T → Type 0
-IsRowAt id walk place row = (d : ℕ) → row ≡ row_at id (slice_index_or walk.ids place d) walk.rows

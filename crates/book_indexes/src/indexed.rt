@@ -3,7 +3,7 @@
 ghost use Rattle.std.specs.Prelude.{◌≡◌, ◌≤◌, ◌+◌, [], length, OnOk};
 ghost use Rattle.std.specs.Option.{option_copied};
 ghost use Rattle.base_sorted.specs.Rising.{rising};
-ghost use Rattle.base_sorted.specs.Tables.{row_at, with_row, without_row, AreInOrder, AreKept};
+ghost use Rattle.base_sorted.specs.Tables.{row_at, with_row, without_row, AreInOrder, AreKept, most_listed};
 ghost use Rattle.book_indexes.specs.Keys.{keys_if, has_end, has_name, has_text, has_group};
 ghost use Rattle.book_indexes.specs.Indexes.{AreIndexed, Finds, ids_passing, with_entry, without_entry};
 
@@ -61,7 +61,7 @@ impl<T: Keyed + Drop, R: OrderedRows<T>> Indexed<T, R> {
 
     /// Ids rise, and there are no more rows than 2^32.
     pub fn known(&self)
-        ensures { AreKept T.key 4294967296 self.now.rows }
+        ensures { AreKept T.key most_listed self.now.rows }
     {
         self.rows.known();
     }
@@ -85,7 +85,7 @@ impl<T: Keyed + Drop, R: OrderedRows<T>> Indexed<T, R> {
         requires { from ≤ to }
         ensures finds { Finds T.key (has_end T.keys from to) self.now.rows result }
         ensures sorted { rising result ≡ ids_passing T.key (has_end T.keys from to) self.now.rows }
-        ensures few { length result ≤ 4294967296 }
+        ensures few { length result ≤ most_listed }
     {
         self.rows.known();
         self.by_until.known();
@@ -96,7 +96,7 @@ impl<T: Keyed + Drop, R: OrderedRows<T>> Indexed<T, R> {
     pub fn naming(&self, named: u64) -> Found<'_>
         ensures finds { Finds T.key (has_name T.keys named) self.now.rows result }
         ensures all { result ≡ ids_passing T.key (has_name T.keys named) self.now.rows }
-        ensures few { length result ≤ 4294967296 }
+        ensures few { length result ≤ most_listed }
     {
         self.rows.known();
         self.by_named.known();
@@ -107,7 +107,7 @@ impl<T: Keyed + Drop, R: OrderedRows<T>> Indexed<T, R> {
     pub fn with_text(&self, digest: u64) -> Found<'_>
         ensures finds { Finds T.key (has_text T.keys digest) self.now.rows result }
         ensures all { result ≡ ids_passing T.key (has_text T.keys digest) self.now.rows }
-        ensures few { length result ≤ 4294967296 }
+        ensures few { length result ≤ most_listed }
     {
         self.rows.known();
         self.by_text.known();
@@ -118,7 +118,7 @@ impl<T: Keyed + Drop, R: OrderedRows<T>> Indexed<T, R> {
     pub fn in_group(&self, group: u64) -> Found<'_>
         ensures finds { Finds T.key (has_group T.keys group) self.now.rows result }
         ensures all { result ≡ ids_passing T.key (has_group T.keys group) self.now.rows }
-        ensures few { length result ≤ 4294967296 }
+        ensures few { length result ≤ most_listed }
     {
         self.rows.known();
         self.by_group.known();

@@ -2,7 +2,7 @@
 
 ghost use Rattle.std.specs.Prelude.{◌≡◌, ◌≤◌, ◌+◌, [], OnOk};
 ghost use Rattle.std.specs.Option.{option_copied};
-ghost use Rattle.base_sorted.specs.Tables.{Table, row_at, with_row, without_row, AreKept};
+ghost use Rattle.base_sorted.specs.Tables.{Table, row_at, with_row, without_row, AreKept, most_listed};
 
 use base_sorted::{Row, Rows, Sparse};
 use std::alloc::{AllocError, Global};
@@ -18,7 +18,7 @@ pub trait OrderedRows<T: Row + Drop> {
 
     /// Ids rise, and there are no more rows than 2^32.
     fn known(&self)
-        ensures { AreKept T.key 4294967296 (table self.now).rows };
+        ensures { AreKept T.key most_listed (table self.now).rows };
 
     /// The row of an id.
     fn get(&self, id: u64) -> Option<&T>

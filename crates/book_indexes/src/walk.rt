@@ -1,8 +1,8 @@
 //! Walks over rows that a key has found.
 
-ghost use Rattle.std.specs.Prelude.{◌≡◌, ◌<◌, ◌+◌, length};
+ghost use Rattle.std.specs.Prelude.{◌≡◌, ◌<◌, ◌+◌, ℕ, length, slice_index_or};
 ghost use Rattle.std.specs.Option.{option_copied};
-ghost use Rattle.book_indexes.specs.Indexes.{IsRowAt};
+ghost use Rattle.base_sorted.specs.Tables.{row_at};
 
 use crate::indexed::Indexed;
 use crate::keyed::Keyed;
@@ -52,7 +52,8 @@ impl<'a, T: Keyed + Drop, R: OrderedRows<T>, L: Ledger> Walk<'a, T, R, L> {
     /// The row at a place. It takes a step.
     pub fn at(&self, place: usize, steps: &mut Steps<L>) -> Option<&'a T>
         requires { place < length self.now.ids }
-        ensures row { IsRowAt T.key self.now place (option_copied result) }
+        ensures row { (d : ℕ) → option_copied result
+            ≡ row_at T.key (slice_index_or self.now.ids place d) self.now.rows }
         ensures cost { steps.new ≡ steps.old + 1 }
     {
         steps.tick();

@@ -1,5 +1,5 @@
 -- Usages that are counted afresh, row by row.
-use Rattle.std.specs.Prelude.{ℕ, List, [], ◌∷◌, Some, None}
+use Rattle.std.specs.Prelude.{◌≡◌, ℕ, List, [], ◌∷◌, length, Vec, Some, None}
 use Rattle.model_catalogue.specs.declared.rows.Quota.{Quota}
 use Rattle.model_rows.specs.declared.rows.CartPos.{CartPos}
 use Rattle.model_rows.specs.declared.rows.OrderPos.{OrderPos}
@@ -8,7 +8,7 @@ use Rattle.model_rows.specs.declared.rows.Voucher.{Voucher}
 use Rattle.model_rows.specs.declared.rows.Waiting.{Waiting}
 use Rattle.model_rows.specs.Lists.{Lists}
 use Rattle.model_rows.specs.Usage.{redeemed}
-use Rattle.book_deltas.specs.Shifts.{block_shift, cart_shift, waiting_shift}
+use Rattle.book_deltas.specs.Shifts.{AreShifted, block_shift, cart_shift, waiting_shift}
 use Rattle.book_deltas.specs.Turns.{position_shift}
 
 -- a usage, once these rows came one after another
@@ -31,3 +31,8 @@ entry_comes row = waiting_shift (Some row) None
 -- a usage at a moment, once this voucher came, which is redeemed as often as the lists have it
 abbrev pub voucher_comes : Lists → ℕ → Voucher → Quota → Usage → Usage
 voucher_comes lists at row = block_shift at (redeemed row.id lists) (Some row) None
+
+-- the usage of each quota of the lists is shifted so, and there are as many as before
+pub record AllShifted {Z : Type 0} (shift : Quota → Usage → Usage) (lists : Lists) (old new : Vec Usage Z) : Type 0 where
+  pub items : AreShifted shift lists.catalogue.quotas old new
+  pub same : length new.items ≡ length old.items

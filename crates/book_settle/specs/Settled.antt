@@ -11,8 +11,10 @@ use Rattle.model_rows.specs.Change.{after_change}
 use Rattle.model_rows.specs.Lists.{Lists, State, voucher_at}
 use Rattle.model_rows.specs.Usage.{usage_of, redeemed, spent}
 use Rattle.book_usage.specs.Limits.{last_use}
-use Rattle.book_deltas.specs.Beside.{AreBeside}
-use Rattle.book_deltas.specs.Spends.{ArePriced}
+use Rattle.book_deltas.specs.Beside.{AreBeside, room_left}
+use Rattle.book_deltas.specs.Held.{AreHeldNow}
+use Rattle.book_deltas.specs.Spends.{ArePriced, AreSpent}
+use Rattle.book_deltas.specs.Usages.{AreUsages, AreRedeemed}
 
 -- the usage of a quota of which no place is used
 abbrev pub nothing : Usage
@@ -72,3 +74,22 @@ ArePutsNew kept (change ∷ changes) lists = ArePutsNew kept changes (after_chan
 pub record AreSmall (lists : Lists) : Type 0 where
   pub uses : AllByRecursion (λ v. v.max_usages ≤ last_use) lists.vouchers
   pub discounts : ArePriced lists
+
+-- all that is kept beside the rows is that of the box office at its moment
+pub record AllCounted (state : State) (us : List Usage) (rs ss hs : List ℕ) : Type 0 where
+  -- the usage of each quota
+  pub usages : AreUsages state.lists state.moment us
+  -- how often each voucher is redeemed, and what is spent of its budget
+  pub redeems : AreRedeemed state.lists rs
+  pub spents : AreSpent state.lists ss
+  -- how many live cart positions name it
+  pub held : AreHeldNow state hs
+  pub small : AreSmall state.lists
+
+-- so many rows fit among those of the box office, and so many values beside them, without taking memory
+pub record AllFit {Z : Type 0} (count room : ℕ) (us : Vec Usage Z) (rs ss hs : Vec ℕ Z) : Type 0 where
+  pub rows : count ≤ room
+  pub usages : count ≤ room_left us
+  pub redeems : count ≤ room_left rs
+  pub spents : count ≤ room_left ss
+  pub holds : count ≤ room_left hs

@@ -3,11 +3,7 @@
 ghost use Rattle.std.specs.Prelude.{◌≡◌, ◌≤◌, ◌+◌, length};
 ghost use Rattle.model_rows.specs.Change.{after_change, after_all, applied, changed};
 ghost use Rattle.model_rows.specs.Weight.{change_weight, weight};
-ghost use Rattle.book_deltas.specs.Beside.{room_left};
-ghost use Rattle.book_deltas.specs.Held.{AreHeldNow};
-ghost use Rattle.book_deltas.specs.Spends.{AreSpent};
-ghost use Rattle.book_deltas.specs.Usages.{AreUsages, AreRedeemed};
-ghost use Rattle.book_settle.specs.Settled.{AreSmall};
+ghost use Rattle.book_settle.specs.Settled.{AllCounted, AllFit, AreSmall};
 
 use crate::fresh::{count_holds, count_redeems, count_spents, count_usages};
 use crate::settle::stay_small;
@@ -61,17 +57,11 @@ pub fn count_again(
     requires spents { length spents.old.items ≡ length store.old.state.lists.vouchers }
     requires holds { length holds.old.items ≡ length store.old.state.lists.vouchers }
     requires small { AreSmall store.old.state.lists }
-    requires room { weight changes.list ≤ store.old.room }
-    requires usages_room { weight changes.list ≤ room_left usages.old }
-    requires redeems_room { weight changes.list ≤ room_left redeems.old }
-    requires spents_room { weight changes.list ≤ room_left spents.old }
-    requires holds_room { weight changes.list ≤ room_left holds.old }
+    requires fits { AllFit
+        (weight changes.list) store.old.room usages.old redeems.old spents.old holds.old }
     ensures state { store.new.state ≡ applied changes at store.old.state }
-    ensures usages { AreUsages store.new.state.lists store.new.state.moment usages.new.items }
-    ensures redeems { AreRedeemed store.new.state.lists redeems.new.items }
-    ensures spents { AreSpent store.new.state.lists spents.new.items }
-    ensures held { AreHeldNow store.new.state holds.new.items }
-    ensures small { AreSmall store.new.state.lists }
+    ensures kept { AllCounted store.new.state usages.new.items redeems.new.items spents.new.items
+        holds.new.items }
 {
     let (list, next) = changes.into_parts();
     store.set(next, at);

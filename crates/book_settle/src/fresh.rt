@@ -4,10 +4,10 @@
 ghost use Rattle.std.specs.Prelude.{◌≡◌, ◌≤◌, ◌<◌, ◌++◌, [], ◌∷◌, length, map, vec_capacity, None, Some};
 ghost use Rattle.model_rows.specs.Headroom.{held};
 ghost use Rattle.model_rows.specs.Usage.{redeemed, spent};
-ghost use Rattle.book_deltas.specs.Shifts.{AreShifted, block_shift, cart_shift, waiting_shift};
+ghost use Rattle.book_deltas.specs.Shifts.{block_shift, cart_shift, waiting_shift};
 ghost use Rattle.book_deltas.specs.Turns.{position_shift};
 ghost use Rattle.book_deltas.specs.Usages.{AreUsages, AreRedeemed};
-ghost use Rattle.book_settle.specs.Fresh.{after_each, position_comes, cart_comes, entry_comes, voucher_comes};
+ghost use Rattle.book_settle.specs.Fresh.{AllShifted, after_each, position_comes, cart_comes, entry_comes, voucher_comes};
 ghost use Rattle.book_settle.specs.Settled.{nothing, AreSmall};
 
 use base_values::Moment;
@@ -140,9 +140,8 @@ impl<'s> Shift for VoucherComes<'s> {
 // Adds what one order position counts.
 fn add_position<'s>(store: &'s Store, usages: &mut Vec<Usage>, row: &'s OrderPos)
     requires { length usages.old.items ≡ length store.now.state.lists.catalogue.quotas }
-    ensures items { AreShifted (position_comes store.now.state.lists row.now)
-        store.now.state.lists.catalogue.quotas usages.old usages.new }
-    ensures same { length usages.new.items ≡ length usages.old.items }
+    ensures { AllShifted (position_comes store.now.state.lists row.now) store.now.state.lists
+        usages.old usages.new }
 {
     let shift = PositionComes { store, row };
     shift_product(store.catalogue(), usages, row.product, &shift);
@@ -151,9 +150,8 @@ fn add_position<'s>(store: &'s Store, usages: &mut Vec<Usage>, row: &'s OrderPos
 // Adds what one cart position counts.
 fn add_cart<'s>(store: &'s Store, usages: &mut Vec<Usage>, at: Moment, row: &'s CartPos)
     requires { length usages.old.items ≡ length store.now.state.lists.catalogue.quotas }
-    ensures items { AreShifted (cart_comes store.now.state.lists at row.now)
-        store.now.state.lists.catalogue.quotas usages.old usages.new }
-    ensures same { length usages.new.items ≡ length usages.old.items }
+    ensures { AllShifted
+        (cart_comes store.now.state.lists at row.now) store.now.state.lists usages.old usages.new }
 {
     let shift = CartComes { store, at, row };
     shift_product(store.catalogue(), usages, row.product, &shift);
@@ -162,9 +160,7 @@ fn add_cart<'s>(store: &'s Store, usages: &mut Vec<Usage>, at: Moment, row: &'s 
 // Adds what one waiting entry counts.
 fn add_entry<'s>(store: &'s Store, usages: &mut Vec<Usage>, row: &'s Waiting)
     requires { length usages.old.items ≡ length store.now.state.lists.catalogue.quotas }
-    ensures items { AreShifted (entry_comes row.now)
-        store.now.state.lists.catalogue.quotas usages.old usages.new }
-    ensures same { length usages.new.items ≡ length usages.old.items }
+    ensures { AllShifted (entry_comes row.now) store.now.state.lists usages.old usages.new }
 {
     let shift = EntryComes { row };
     shift_product(store.catalogue(), usages, row.product, &shift);
@@ -180,9 +176,8 @@ fn add_voucher<'s>(
 )
     requires same { length usages.old.items ≡ length store.now.state.lists.catalogue.quotas }
     requires redeems { AreRedeemed store.now.state.lists redeems.now }
-    ensures items { AreShifted (voucher_comes store.now.state.lists at row.now)
-        store.now.state.lists.catalogue.quotas usages.old usages.new }
-    ensures same { length usages.new.items ≡ length usages.old.items }
+    ensures { AllShifted (voucher_comes store.now.state.lists at row.now) store.now.state.lists
+        usages.old usages.new }
 {
     let spent = redeemed_in(store, redeems, row.id);
     let shift = VoucherComes { at, spent, row };
@@ -192,9 +187,8 @@ fn add_voucher<'s>(
 // Adds what these order positions count: of paid orders, of pending ones, and where they have gone out.
 fn add_positions(store: &Store, usages: &mut Vec<Usage>, rows: &[OrderPos])
     requires { length usages.old.items ≡ length store.now.state.lists.catalogue.quotas }
-    ensures items { AreShifted (after_each (position_comes store.now.state.lists) rows.now)
-        store.now.state.lists.catalogue.quotas usages.old usages.new }
-    ensures same { length usages.new.items ≡ length usages.old.items }
+    ensures { AllShifted (after_each (position_comes store.now.state.lists) rows.now)
+        store.now.state.lists usages.old usages.new }
 {
     for row in rows {
         add_position(store, usages, row);
@@ -211,9 +205,8 @@ fn add_vouchers(
 )
     requires same { length usages.old.items ≡ length store.now.state.lists.catalogue.quotas }
     requires redeems { AreRedeemed store.now.state.lists redeems.now }
-    ensures items { AreShifted (after_each (voucher_comes store.now.state.lists at) rows.now)
-        store.now.state.lists.catalogue.quotas usages.old usages.new }
-    ensures same { length usages.new.items ≡ length usages.old.items }
+    ensures { AllShifted (after_each (voucher_comes store.now.state.lists at) rows.now)
+        store.now.state.lists usages.old usages.new }
 {
     for row in rows {
         add_voucher(store, usages, redeems, at, row);
@@ -223,10 +216,9 @@ fn add_vouchers(
 // Adds what all cart positions count.
 fn add_carts(store: &Store, usages: &mut Vec<Usage>, at: Moment)
     requires { length usages.old.items ≡ length store.now.state.lists.catalogue.quotas }
-    ensures items { AreShifted
-        (after_each (cart_comes store.now.state.lists at) store.now.state.lists.carts)
-        store.now.state.lists.catalogue.quotas usages.old usages.new }
-    ensures same { length usages.new.items ≡ length usages.old.items }
+    ensures { AllShifted (after_each
+        (cart_comes store.now.state.lists at) store.now.state.lists.carts) store.now.state.lists
+        usages.old usages.new }
 {
     for row in store.carts().rows().iter() {
         add_cart(store, usages, at, row);
@@ -236,9 +228,8 @@ fn add_carts(store: &Store, usages: &mut Vec<Usage>, at: Moment)
 // Adds what all waiting entries count.
 fn add_entries(store: &Store, usages: &mut Vec<Usage>)
     requires { length usages.old.items ≡ length store.now.state.lists.catalogue.quotas }
-    ensures items { AreShifted (after_each entry_comes store.now.state.lists.waiting)
-        store.now.state.lists.catalogue.quotas usages.old usages.new }
-    ensures same { length usages.new.items ≡ length usages.old.items }
+    ensures { AllShifted (after_each entry_comes store.now.state.lists.waiting)
+        store.now.state.lists usages.old usages.new }
 {
     for row in store.waiting().rows().iter() {
         add_entry(store, usages, row);

@@ -15,7 +15,7 @@ ghost use Rattle.book_deltas.specs.Held.{AreHeldNow};
 ghost use Rattle.book_deltas.specs.Spends.{AreSpent};
 ghost use Rattle.book_deltas.specs.Usages.{AreUsages, AreRedeemed};
 ghost use Rattle.book_settle.specs.Spared.{spares_used};
-ghost use Rattle.book_settle.specs.Settled.{put_each, redeemed_at, spent_at, used_at, ArePutsNew, AreSmall, KeepsQuotas, KeepsVouchers};
+ghost use Rattle.book_settle.specs.Settled.{put_each, redeemed_at, spent_at, used_at, AllCounted, AllFit, ArePutsNew, AreSmall, KeepsQuotas, KeepsVouchers};
 
 use crate::beside::{keep_place, set_one};
 use base_values::Moment;
@@ -182,11 +182,8 @@ fn carry(
     requires usages_same { length usages.old.items ≡ length store.old.state.lists.catalogue.quotas }
     requires redeems_same { length redeems.old.items ≡ length store.old.state.lists.vouchers }
     requires spents_same { length spents.old.items ≡ length store.old.state.lists.vouchers }
-    requires room { change_weight change ≤ store.old.room }
-    requires usages_room { change_weight change ≤ room_left usages.old }
-    requires redeems_room { change_weight change ≤ room_left redeems.old }
-    requires spents_room { change_weight change ≤ room_left spents.old }
-    requires holds_room { change_weight change ≤ room_left holds.old }
+    requires fits { AllFit
+        (change_weight change) store.old.room usages.old redeems.old spents.old holds.old }
     requires held { AreHeldNow store.old.state holds.old.items }
     requires small { AreSmall store.old.state.lists }
     ensures small { AreSmall (after_change change store.old.state.lists) }
@@ -226,11 +223,8 @@ fn carry_all(
     requires small { AreSmall store.old.state.lists }
     requires new { ArePutsNew (redeemed_at store.old.state) list.items store.old.state.lists }
     requires unspent { ArePutsNew (spent_at store.old.state) list.items store.old.state.lists }
-    requires room { weight list.items ≤ store.old.room }
-    requires usages_room { weight list.items ≤ room_left usages.old }
-    requires redeems_room { weight list.items ≤ room_left redeems.old }
-    requires spents_room { weight list.items ≤ room_left spents.old }
-    requires holds_room { weight list.items ≤ room_left holds.old }
+    requires fits { AllFit
+        (weight list.items) store.old.room usages.old redeems.old spents.old holds.old }
     ensures state { store.new.state
         ≡ record store.old.state { lists = after_all list.items store.old.state.lists } }
     ensures usages { AreBeside (λ q. q.id) (used_at (record store.old.state { moment = from }))
@@ -267,24 +261,15 @@ pub fn settle(
     at: Moment,
 )
     requires moment { store.old.state.moment ≤ at }
-    requires usages { AreUsages store.old.state.lists store.old.state.moment usages.old.items }
-    requires redeems { AreRedeemed store.old.state.lists redeems.old.items }
-    requires spents { AreSpent store.old.state.lists spents.old.items }
-    requires held { AreHeldNow store.old.state holds.old.items }
-    requires small { AreSmall store.old.state.lists }
+    requires kept { AllCounted store.old.state usages.old.items redeems.old.items spents.old.items
+        holds.old.items }
     requires counts { counts.now ≡ counts_of_changes changes at store.old.state }
     requires spared { list_all (spares_used store.old.state.lists) changes.list ≡ true }
-    requires room { weight changes.list ≤ store.old.room }
-    requires usages_room { weight changes.list ≤ room_left usages.old }
-    requires redeems_room { weight changes.list ≤ room_left redeems.old }
-    requires spents_room { weight changes.list ≤ room_left spents.old }
-    requires holds_room { weight changes.list ≤ room_left holds.old }
+    requires fits { AllFit
+        (weight changes.list) store.old.room usages.old redeems.old spents.old holds.old }
     ensures state { store.new.state ≡ applied changes at store.old.state }
-    ensures usages { AreUsages store.new.state.lists store.new.state.moment usages.new.items }
-    ensures redeems { AreRedeemed store.new.state.lists redeems.new.items }
-    ensures spents { AreSpent store.new.state.lists spents.new.items }
-    ensures held { AreHeldNow store.new.state holds.new.items }
-    ensures small { AreSmall store.new.state.lists }
+    ensures kept { AllCounted store.new.state usages.new.items redeems.new.items spents.new.items
+        holds.new.items }
 {
     store.known();
     let old = store.catalogue();

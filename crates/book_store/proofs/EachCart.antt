@@ -36,7 +36,8 @@ has_either : (k : ℕ) (a b : CartPos → Bool) (rows : List CartPos) → has k 
 has_either k a b [] = refl
 has_either k a b (r ∷ rs) = by_tests (a r) (b r) (has_either k a b rs)
   where
-    by_tests : (p q : Bool) → has k (map (λ c. c.id) (filter (λ c. a c || b c) rs)) ≡ (has k (map (λ c. c.id) (filter a rs)) || has k (map (λ c. c.id) (filter b rs))) → has k (map (λ c. c.id) (cond (p || q) (r ∷ filter (λ c. a c || b c) rs) (filter (λ c. a c || b c) rs))) ≡ (has k (map (λ c. c.id) (cond p (r ∷ filter a rs) (filter a rs))) || has k (map (λ c. c.id) (cond q (r ∷ filter b rs) (filter b rs))))
+    by_tests : (p q : Bool) → has k (map (λ c. c.id) (filter (λ c. a c || b c) rs)) ≡ (has k (map (λ c. c.id) (filter a rs)) || has k (map (λ c. c.id) (filter b rs)))
+        → has k (map (λ c. c.id) (cond (p || q) (r ∷ filter (λ c. a c || b c) rs) (filter (λ c. a c || b c) rs))) ≡ (has k (map (λ c. c.id) (cond p (r ∷ filter a rs) (filter a rs))) || has k (map (λ c. c.id) (cond q (r ∷ filter b rs) (filter b rs))))
     by_tests true true more = grind (arith, nat_tests, more)
     by_tests true false more = grind (arith, nat_tests, more)
     by_tests false true more = grind (arith, nat_tests, more)

@@ -1,5 +1,5 @@
 -- What is seen of the row of one id.
-use Rattle.std.specs.Prelude.{ℕ, ◌+◌, ◌*◌, Bool, ◌&&◌, ◌==◌, List, Option, find, filter, length}
+use Rattle.std.specs.Prelude.{ℕ, ◌+◌, ◌*◌, Bool, ◌&&◌, ◌==◌, List, Option, filter, length}
 use Rattle.base_values.specs.Texts.{same_text}
 use Rattle.model_catalogue.specs.declared.rows.Product.{Product}
 use Rattle.model_catalogue.specs.declared.rows.Quota.{Quota}
@@ -11,10 +11,10 @@ use Rattle.model_rows.specs.declared.rows.Voucher.{Voucher}
 use Rattle.model_rows.specs.declared.rows.Waiting.{Waiting}
 use Rattle.model_rows.specs.Conditions.{is_in_force, is_live_cart}
 use Rattle.model_rows.specs.Lists.{Lists, voucher_at, order_at, position_at, waiting_at, checkin_at}
-use Rattle.model_rows.specs.Usage.{stands_as, spends}
+use Rattle.model_rows.specs.Usage.{stands_as}
 use Rattle.model_rows.specs.Waits.{waits_as}
 use Rattle.book_indexes.specs.Indexes.{ids_passing}
-use Rattle.book_store.specs.Walks.{listed, passing, one_if, amount_of}
+use Rattle.book_store.specs.Walks.{listed, passing, one_if}
 
 -- the voucher of an id, if it has the code
 abbrev pub coded_at : ℕ → List ℕ → Lists → Option Voucher
@@ -28,10 +28,6 @@ secret_at id secret lists = passing (λ p. same_text p.secret secret) (position_
 abbrev pub entry_as : ℕ → List ℕ → Product → Lists → Option Waiting
 entry_as id email product lists = passing (waits_as email product) (waiting_at id lists)
 
--- the first of all such entries
-abbrev pub first_waiting : List ℕ → Product → Lists → Option Waiting
-first_waiting email product lists = find (waits_as email product) lists.waiting
-
 -- the check-in of an id, if there is one, and it is of this position by this list
 abbrev pub checkin_by : ℕ → ℕ → ℕ → Lists → List Checkin
 checkin_by id list position lists = filter (λ c. c.list == list && c.position == position) (listed (checkin_at id lists))
@@ -43,10 +39,6 @@ ids_in_cart cart rows = ids_passing (λ c. c.id) (λ c. same_text c.cart_id cart
 -- 1 where the order position of an id stands, and its order is in force
 abbrev pub use_at : ℕ → Lists → ℕ
 use_at id lists = one_if (λ p. stands_as is_in_force (order_at p.order lists)) (position_at id lists)
-
--- what the order position of an id takes of the voucher's budget, in cents
-abbrev pub spend_at : ℕ → ℕ → Lists → ℕ
-spend_at voucher id lists = amount_of (spends voucher lists) (position_at id lists)
 
 -- a cart position is live at a moment, and for a product of the quota
 abbrev pub is_live_in : ℕ → Quota → CartPos → Bool

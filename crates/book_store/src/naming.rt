@@ -3,14 +3,15 @@
 ghost use Rattle.std.specs.Prelude.{◌≡◌, ◌≤◌, ◌+◌, length, IfOk};
 ghost use Rattle.base_values.specs.Money.{last_cents};
 ghost use Rattle.model_rows.specs.Conditions.{is_live_cart};
-ghost use Rattle.model_rows.specs.Lists.{cart_at};
-ghost use Rattle.model_rows.specs.Usage.{redeemed, spent};
-ghost use Rattle.model_rows.specs.Headroom.{held, held_in};
+ghost use Rattle.model_rows.specs.Lists.{cart_at, position_at};
+ghost use Rattle.model_rows.specs.Usage.{redeemed, spent, spends};
+ghost use Rattle.model_rows.specs.Headroom.{held};
+ghost use Rattle.model_rows.specs.Asked.{held_in};
 ghost use Rattle.book_usage.specs.Limits.{most_listed, most_naming, most_spent};
 ghost use Rattle.book_usage.specs.Naming.{naming, position_names, cart_names, entry_names, cart_ids_naming};
 ghost use Rattle.book_store.specs.Found.{FindsPositions, FindsCarts, FindsEntries};
-ghost use Rattle.book_store.specs.OneRow.{use_at, spend_at, is_live_in};
-ghost use Rattle.book_store.specs.Walks.{one_if};
+ghost use Rattle.book_store.specs.OneRow.{use_at, is_live_in};
+ghost use Rattle.book_store.specs.Walks.{one_if, amount_of};
 
 use crate::counts::count_one;
 use crate::store::Store;
@@ -93,7 +94,8 @@ impl Store {
     // What the order position of an id takes of a voucher's budget, in cents.
     #[tactic(auto, unfolding(crate::specs::Walks::amount_of))]
     fn spend_of(&self, voucher: u64, id: u64) -> u64
-        ensures value { result ≡ spend_at voucher id self.now.state.lists }
+        ensures value { result ≡ amount_of (spends voucher self.now.state.lists)
+            (position_at id self.now.state.lists) }
         ensures small { result ≤ last_cents }
     {
         match self.position(id) {

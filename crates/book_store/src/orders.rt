@@ -3,7 +3,7 @@
 ghost use Rattle.std.specs.Prelude.{◌≡◌, ◌≤◌, ◌==◌, ◌++◌, length, map, is_some, IfOk};
 ghost use Rattle.std.specs.Option.{option_copied};
 ghost use Rattle.model_rows.specs.Lists.{position_at, positions_of};
-ghost use Rattle.model_rows.specs.Named.{with_secret};
+ghost use Rattle.model_rows.specs.Asked.{with_secret};
 ghost use Rattle.model_rows.specs.Due.{due_orders};
 ghost use Rattle.book_usage.specs.Limits.{most_listed};
 ghost use Rattle.book_usage.specs.OfOrder.{count_ordered};

@@ -1,10 +1,10 @@
 //! Who waits.
 
-ghost use Rattle.std.specs.Prelude.{◌≡◌, is_some, IfOk};
+ghost use Rattle.std.specs.Prelude.{◌≡◌, find, is_some, IfOk};
 ghost use Rattle.std.specs.Option.{option_copied};
-ghost use Rattle.model_rows.specs.Waits.{is_waiting};
+ghost use Rattle.model_rows.specs.Waits.{is_waiting, waits_as};
 ghost use Rattle.book_usage.specs.Waiters.{waiter_ids};
-ghost use Rattle.book_store.specs.OneRow.{entry_as, first_waiting};
+ghost use Rattle.book_store.specs.OneRow.{entry_as};
 
 use crate::store::Store;
 use book_indexes::digest;
@@ -35,7 +35,8 @@ impl Store {
 
     // The first of these entries: a walk over those that wait and whose emails have the digest.
     fn entry_waiting(&self, email: &str, product: Product) -> Option<&Waiting>
-        ensures { option_copied result ≡ first_waiting email.now product self.now.state.lists }
+        ensures { option_copied result
+            ≡ find (waits_as email.now product) self.now.state.lists.waiting }
     {
         self.known();
         let ids = self.waiting().with_text(digest(email));

@@ -11,7 +11,7 @@ use Rattle.model_rows.specs.Conditions.{is_live_cart, names, holds}
 use Rattle.model_rows.specs.Lists.{Lists, voucher_at}
 use Rattle.model_rows.specs.Usage.{cart_counts, blocks_if, is_covered_by}
 use Rattle.model_rows.proofs.Time.{one, eqb_flip, gated, same_sums, sum_by_split}
-use Rattle.model_rows.specs.Headroom.{held_in}
+use Rattle.model_rows.specs.Asked.{held_in}
 
 -- what passes unless a test holds
 unless : {X : Type 0} (b : Bool) (p : X → Bool) (xs : List X) → count_by (λ x. not b && p x) xs ≡ (if b then 0 else count_by p xs)

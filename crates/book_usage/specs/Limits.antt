@@ -1,9 +1,6 @@
 -- How many rows a book may keep, and what they can count at most.
 use Rattle.std.specs.Prelude.{ℕ}
-
--- the most rows of one list: 2^32
-abbrev pub most_listed : ℕ
-most_listed = 4294967296
+pub use Rattle.base_sorted.specs.Tables.{most_listed}
 
 -- the most order positions, cart positions and waiting entries together
 abbrev pub most_naming : ℕ

@@ -5,7 +5,7 @@ use Rattle.model_rows.specs.declared.rows.OrderPos.{OrderPos}
 use Rattle.model_rows.specs.declared.rows.Waiting.{Waiting}
 use Rattle.model_rows.specs.Conditions.{names}
 use Rattle.model_rows.specs.Lists.{Lists}
-use Rattle.model_rows.specs.Named.{carts_naming}
+use Rattle.model_rows.specs.Asked.{carts_naming}
 
 -- an order position names the voucher of this id
 abbrev pub position_names : ℕ → OrderPos → Bool

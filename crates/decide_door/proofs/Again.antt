@@ -132,7 +132,9 @@ valid_still list position scan before after good valid = record {
 
 -- a scan with a nonce that was let through is let through again and changes nothing, whatever came between: the list and the
 -- position stand, the check-in is stored, and the order stands as it did, or is paid
-pub scan_repeated : (list : ℕ) (ticket : Ticket) (scan : Scan) (before after later : State) (position : OrderPos) → scanned list ticket scan before ≡ Ok (after, position) → checkin_list_at list later.lists ≡ checkin_list_at list before.lists → shown_by ticket later.lists ≡ Some position → IsStillGood position.order before.lists later.lists → is_stored list position.id scan.nonce later.lists.checkins ≡ true → scanned list ticket scan later ≡ Ok (later, position)
+pub scan_repeated : (list : ℕ) (ticket : Ticket) (scan : Scan) (before after later : State) (position : OrderPos) → scanned list ticket scan before ≡ Ok (after, position)
+    → checkin_list_at list later.lists ≡ checkin_list_at list before.lists → shown_by ticket later.lists ≡ Some position → IsStillGood position.order before.lists later.lists
+    → is_stored list position.id scan.nonce later.lists.checkins ≡ true → scanned list ticket scan later ≡ Ok (later, position)
 scan_repeated list ticket scan before after later position h same shown good stored =
     let a = (admitted_is list ticket scan before after position h).0 in
     let id : a.by.id ≡ list = key-row_at (λ (r : CheckinList). r.id) list before.lists.checkin_lists a.by a.found in

@@ -55,7 +55,9 @@ module _ (position : ℕ) (checkins : List Checkin) where
   passes_among list scan = λ i. is_exit scan.kind || (scan.force || (list.allow_multiple_entries || (not (entry_among list.id i) || (list.allow_entry_after_exit && is_exit_if (last_among list.id i)))))
 
 -- the verdict by a position's own check-ins by the list
-pub verdict_by : (list : CheckinList) (position : OrderPos) (scan : Scan) (lists : Lists) (own : List Checkin) (stored passes : Bool) → own ≡ checkins_by list.id position.id lists → IsValid list position scan lists → is_stored list.id position.id scan.nonce own ≡ stored → may_pass list position.id scan own ≡ passes → verdict (Some list) (Some position) scan lists ≡ (if stored then Ok (Again position) else if passes then Ok (New position) else Err AlreadyRedeemed)
+pub verdict_by : (list : CheckinList) (position : OrderPos) (scan : Scan) (lists : Lists) (own : List Checkin) (stored passes : Bool) → own ≡ checkins_by list.id position.id lists
+    → IsValid list position scan lists → is_stored list.id position.id scan.nonce own ≡ stored → may_pass list position.id scan own ≡ passes
+    → verdict (Some list) (Some position) scan lists ≡ (if stored then Ok (Again position) else if passes then Ok (New position) else Err AlreadyRedeemed)
 unfolding verdict
 verdict_by list position scan lists own stored passes is valid e f =
     let all_stored : is_stored list.id position.id scan.nonce lists.checkins ≡ stored = sym (stored_among position.id lists.checkins list.id scan.nonce) ∙ ap (is_stored list.id position.id scan.nonce) (sym is) ∙ e in

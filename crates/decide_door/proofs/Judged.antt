@@ -44,7 +44,9 @@ module _ (scan : Scan) (lists : Lists) where
     either_by false true e f h = inr ((e, f), cc)
     either_by false false e f h = absurd (cc)
 
-    judged_by : (in_force listed unpaid : Bool) → is_in_force_if (order_at position.order lists) ≡ in_force → is_for list position.product.item ≡ listed → is_unpaid_if list scan (order_at position.order lists) ≡ unpaid → Gives (if not in_force then Err Canceled else if not listed then Err Product else if unpaid then Err Unpaid else at_check_ins) → IsJudged (Some list) (Some position) a
+    judged_by : (in_force listed unpaid : Bool) → is_in_force_if (order_at position.order lists) ≡ in_force → is_for list position.product.item ≡ listed
+        → is_unpaid_if list scan (order_at position.order lists) ≡ unpaid
+        → Gives (if not in_force then Err Canceled else if not listed then Err Product else if unpaid then Err Unpaid else at_check_ins) → IsJudged (Some list) (Some position) a
     judged_by false listed unpaid e f g h = absurd (cc)
     judged_by true false unpaid e f g h = absurd (cc)
     judged_by true true true e f g h = absurd (cc)

@@ -4,7 +4,9 @@ pub mod Belongs
 pub mod Verdict
 pub mod Valid
 pub mod Scanned
+pub mod LetThrough
 pub mod Stays
 pub mod Status
+pub mod Listing
 pub mod Worked
 pub mod Places

@@ -6,7 +6,7 @@ use Rattle.model_rows.specs.declared.rows.Checkin.{Checkin}
 use Rattle.model_rows.specs.Lists.{Lists}
 use Rattle.model_commands.specs.declared.doors.DoorStatus.{DoorStatus}
 use Rattle.model_commands.specs.declared.doors.ListedTicket.{ListedTicket}
-use Rattle.decide_door.specs.Belongs.{belongs, belonging}
+use Rattle.decide_door.specs.Belongs.{belonging}
 use Rattle.model_rows.specs.Passages.{is_entry_if}
 use Rattle.decide_door.specs.Last.{has_entry, checkins_of, last_of}
 
@@ -41,7 +41,3 @@ tickets_page skip most list lists = map (ticket_of list lists) (take most (drop 
 -- what is shown so far, and of the rows that are left those that pass, without the first ones, so that there are so many in all
 abbrev pub part : {A B : Type 0} → (A → B) → (A → Bool) → List B → ℕ → ℕ → List A → List B
 part show passes shown skip most rows = shown ++ map show (take (most - length shown) (drop skip (filter passes rows)))
-
--- the tickets so far, and of the rows that are left those that belong to the list
-abbrev pub tickets_more : CheckinList → Lists → List ListedTicket → ℕ → ℕ → List OrderPos → List ListedTicket
-tickets_more list lists shown skip most rows = part (ticket_of list lists) (belongs list lists) shown skip most rows

@@ -1,5 +1,5 @@
 -- Worked cases: a house of one order with one position, and one check-in list.
-use Rattle.std.specs.Prelude.{ℕ, ◌+◌, Bool, true, false, List, [], ◌∷◌, length, Option, Some, None}
+use Rattle.std.specs.Prelude.{◌≡◌, ℕ, ◌+◌, Bool, true, false, List, [], ◌∷◌, length, Option, Some, None, Ok, Err}
 use Rattle.model_rows.specs.declared.rows.Status.{Status}
 use Rattle.model_rows.specs.declared.rows.OrderPos.{OrderPos}
 use Rattle.model_rows.specs.declared.rows.CheckinKind.{CheckinKind}
@@ -7,9 +7,11 @@ use Rattle.model_rows.specs.declared.rows.CheckinKind.TheVariants.{Entry, Exit}
 use Rattle.model_rows.specs.declared.rows.CheckinList.{CheckinList}
 use Rattle.model_rows.specs.declared.rows.Checkin.{Checkin}
 use Rattle.model_rows.specs.Lists.{State, no_rows, first_ids}
+use Rattle.model_commands.specs.declared.doors.DoorRefusal.{DoorRefusal}
 use Rattle.model_commands.specs.declared.doors.Scan.{Scan}
 use Rattle.model_commands.specs.declared.doors.Ticket.{Ticket}
 use Rattle.model_commands.specs.declared.doors.Ticket.TheVariants.{Position, Secret}
+use Rattle.decide_door.specs.Scanned.{scanned}
 
 -- a list for all items, which may include pending orders and allow an entry after an exit
 abbrev pub door : Bool → Bool → CheckinList
@@ -31,10 +33,11 @@ return_list = door false true
 abbrev pub seat : OrderPos
 seat = record { id = 1; order = 1; positionid = 1; product = record { item = 1; variation = None }; price = 2300; voucher = None; secret = 97 ∷ []; discount = 0 }
 
--- the ticket is shown by its id, and by its secret
+-- the ticket is shown by its id
 abbrev pub by_id : Ticket
 by_id = Position 1
 
+-- it is shown by its secret
 abbrev pub by_secret : Ticket
 by_secret = Secret (97 ∷ [])
 
@@ -54,17 +57,15 @@ nonce n = Some ((48 + n) ∷ [])
 abbrev pub scan : CheckinKind → Option (List ℕ) → Scan
 scan kind nonce = record { kind = kind; nonce = nonce; datetime = None; force = false; ignore_unpaid = false }
 
--- an entry with a nonce of one digit, and an exit
+-- an entry with a nonce of one digit
 abbrev pub entry_with : ℕ → Scan
 entry_with n = scan Entry (nonce n)
 
-abbrev pub exit_with : ℕ → Scan
-exit_with n = scan Exit (nonce n)
-
--- an entry without a nonce that ignores that the order is unpaid, and one that is forced
+-- an entry without a nonce that ignores that the order is unpaid
 abbrev pub lenient_entry : Scan
 lenient_entry = record (scan Entry None) { ignore_unpaid = true }
 
+-- an entry without a nonce that is forced
 abbrev pub forced_entry : Scan
 forced_entry = record (scan Entry None) { force = true }
 
@@ -72,23 +73,30 @@ forced_entry = record (scan Entry None) { force = true }
 abbrev pub passed : ℕ → ℕ → CheckinKind → Option (List ℕ) → ℕ → Checkin
 passed id list kind nonce at = record { id = id; list = list; position = 1; kind = kind; datetime = at; nonce = nonce }
 
--- three check-ins of the ticket by list 1: it comes in, goes out, and comes in again
+-- by list 1 the ticket comes in
 abbrev pub first_in : Checkin
 first_in = passed 1 1 Entry (nonce 1) 1000
 
+-- then it goes out by list 1
 abbrev pub then_out : Checkin
 then_out = passed 2 1 Exit (nonce 3) 1000
-
-abbrev pub in_again : Checkin
-in_again = passed 3 1 Entry (nonce 4) 1000
 
 -- it comes in by list 2
 abbrev pub elsewhere_in : Checkin
 elsewhere_in = passed 1 2 Entry (nonce 1) 1000
 
--- check-in 1 by list 1 is an entry at this moment, and check-in 2 an exit
+-- check-in 1, by list 1, is an entry at this moment
 abbrev pub in_at : ℕ → Checkin
 in_at moment = passed 1 1 Entry None moment
 
+-- check-in 2, by list 1, is an exit at this moment
 abbrev pub out_at : ℕ → Checkin
 out_at moment = passed 2 1 Exit None moment
+
+-- the house's list 1, over an order of this status and with these check-ins, lets the ticket through; these check-ins are stored then
+abbrev pub Admits : CheckinList → Status → List Checkin → Ticket → Scan → List Checkin → Type 0
+Admits list status checkins ticket scan stored = scanned 1 ticket scan (house status list checkins) ≡ Ok (house status list stored, seat)
+
+-- it refuses the ticket
+abbrev pub Refuses : CheckinList → Status → List Checkin → Ticket → Scan → DoorRefusal → Type 0
+Refuses list status checkins ticket scan refusal = scanned 1 ticket scan (house status list checkins) ≡ Err refusal

@@ -3,7 +3,8 @@
 ghost use Rattle.std.specs.Prelude.{◌≡◌, IfOk, List, ◌∷◌, length};
 ghost use Rattle.model_rows.specs.declared.rows.OrderPos.{OrderPos};
 ghost use Rattle.decide_door.specs.Belongs.{is_for, includes, belongs, belonging};
-ghost use Rattle.decide_door.specs.Status.{ticket_of, tickets_page, tickets_more};
+ghost use Rattle.decide_door.specs.Status.{ticket_of, tickets_page};
+ghost use Rattle.decide_door.specs.Listing.{tickets_more};
 
 use book_usage::Book;
 use model_commands::ListedTicket;

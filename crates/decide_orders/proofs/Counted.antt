@@ -14,7 +14,8 @@ use Rattle.model_rows.specs.Lists.{State}
 use Rattle.model_rows.specs.Change.{after_all}
 use Rattle.model_rows.proofs.EachRow.{all_weaker, all-with_row, found_below}
 use Rattle.model_invariant.specs.Ids.{AreNumbered}
-use Rattle.model_invariant.specs.Positions.{most_positions, CountFrom, AreWhole, AllHavePositions, AreOrdered}
+use Rattle.model_invariant.specs.Positions.{most_positions, CountFrom, AreWhole, AllHavePositions}
+use Rattle.model_invariant.specs.Shown.{AreOrdered}
 use Rattle.model_invariant.specs.Secrets.{has_own_secret}
 use Rattle.model_invariant.proofs.ByNumber.{counted_is}
 use Rattle.model_invariant.proofs.Positions.{last_put, whole_created}
@@ -24,7 +25,8 @@ use Rattle.model_commands.specs.declared.carts.Asked.{Asked}
 use Rattle.model_commands.specs.declared.orders.OrderRefusal.{OrderRefusal}
 use Rattle.model_commands.specs.declared.orders.OrderRefusal.TheVariants.{Voucher as OfVoucher}
 use Rattle.decide_orders.specs.Sold.{sold_for}
-use Rattle.decide_orders.specs.Created.{position_row, position_for, rows_for, position_put, with_positions, AreCounted, counts_test, order_created}
+use Rattle.decide_orders.specs.Created.{position_row, position_for, rows_for, position_put, with_positions, counts_test, order_created}
+use Rattle.decide_orders.specs.Steps.{AreCounted}
 use Rattle.decide_orders.proofs.Puts.{put_is, carts_keep_orders, carts_keep_positions}
 
 -- an order that is made asks for 1 to 500 positions

@@ -41,7 +41,8 @@ use Rattle.model_commands.specs.declared.carts.Asked.{Asked}
 use Rattle.model_commands.specs.declared.orders.OrderRefusal.{OrderRefusal}
 use Rattle.model_commands.specs.declared.orders.OrderRefusal.TheVariants.{Voucher as OfVoucher}
 use Rattle.decide_orders.specs.Sold.{sold_for}
-use Rattle.decide_orders.specs.Created.{order_row, position_row, position_for, rows_for, position_put, with_positions, with_ids_used, AreCounted, with_order_row, order_placed, counts_test, order_created}
+use Rattle.decide_orders.specs.Created.{order_row, position_row, position_for, rows_for, position_put, with_positions, with_ids_used, with_order_row, order_placed, counts_test, order_created}
+use Rattle.decide_orders.specs.Steps.{AreCounted}
 use Rattle.decide_orders.proofs.Counted.{created_few, are_rows, created_whole}
 use Rattle.decide_orders.proofs.Limited.{order_limited, positions_limited}
 use Rattle.decide_orders.proofs.Puts.{put_is, carts_keep_catalogue, carts_keep_orders, carts_keep_positions, carts_keep_vouchers}
@@ -159,7 +160,8 @@ module _ (lists : Lists) (number : ℕ) where
         g.sound;
   }
 
-  puts_sound : (rows : List OrderPos) (id : ℕ) (state put : State) → TakesSome (length rows) id state.lists.positions → AreCounted id rows → AllByRecursion (IsOwn lists number) rows → AllByRecursion (λ p. has_own_secret p ≡ true) rows → AllByRecursion IsLimitedPosition rows → Goes id state → with_positions rows (Ok state) ≡ Ok put → IsSoundSoFar (numbered (id + length rows) put)
+  puts_sound : (rows : List OrderPos) (id : ℕ) (state put : State) → TakesSome (length rows) id state.lists.positions → AreCounted id rows → AllByRecursion (IsOwn lists number) rows
+      → AllByRecursion (λ p. has_own_secret p ≡ true) rows → AllByRecursion IsLimitedPosition rows → Goes id state → with_positions rows (Ok state) ≡ Ok put → IsSoundSoFar (numbered (id + length rows) put)
   puts_sound [] id state put takes counted own secrets limits g h =
       let same : state ≡ put = cc (h) in
       let end : id ≡ id + 0 = omega arith in
@@ -171,7 +173,11 @@ module _ (lists : Lists) (number : ℕ) where
       by_put (Ok made) e h more =
           let p = put_is row state made e in
           let end : id + 1 + length rows ≡ id + length (row ∷ rows) = omega arith in
-          subst (λ (n : ℕ). IsSoundSoFar (numbered n put)) end (more made (subst (λ (s : State). TakesSome (length rows) (id + 1) s.lists.positions) p.is (takes_others (λ (r : OrderPos). r.id) row rows id state.lists.positions takes)) (subst (Goes (id + 1)) p.is (goes_on id row state counted.0 own.0 secrets.0 p.left (takes_first (λ (r : OrderPos). r.id) row rows id state.lists.positions takes) limits.0 g)) h)
+          let others = takes_others (λ (r : OrderPos). r.id) row rows id state.lists.positions takes in
+          let first = takes_first (λ (r : OrderPos). r.id) row rows id state.lists.positions takes in
+          let goes = goes_on id row state counted.0 own.0 secrets.0 p.left first limits.0 g in
+          subst (λ (n : ℕ). IsSoundSoFar (numbered n put)) end
+          (more made (subst (λ (s : State). TakesSome (length rows) (id + 1) s.lists.positions) p.is others) (subst (Goes (id + 1)) p.is goes) h)
 
 -- there is a code for one order more, and room for its positions
 pub takes_all : (count : ℕ) (state : State) → (takes_order state && takes_positions count state) ≡ true → ((length state.lists.orders < last_order) × (state.next.order ≤ last_order)) × TakesSome count state.next.position state.lists.positions

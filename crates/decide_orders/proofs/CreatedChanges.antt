@@ -22,7 +22,8 @@ use Rattle.model_invariant.proofs.Positions.{last_put}
 use Rattle.model_commands.specs.FitRequests.{IsFitOrder}
 use Rattle.model_commands.specs.declared.orders.NewOrder.{NewOrder}
 use Rattle.model_commands.specs.declared.orders.OrderRefusal.{OrderRefusal}
-use Rattle.decide_orders.specs.Created.{position_put, with_positions, AreCounted, with_order_row, order_changes, order_created}
+use Rattle.decide_orders.specs.Created.{position_put, with_positions, with_order_row, order_changes, order_created}
+use Rattle.decide_orders.specs.Steps.{AreCounted}
 use Rattle.decide_orders.proofs.Counted.{are_rows, stand_behind}
 use Rattle.decide_orders.proofs.Created.{IsOwn, numbered, Goes, goes_on, are_own, takes_all, begins, created_is, created_limited, created_sound}
 use Rattle.decide_orders.proofs.Puts.{put_is, carts_keep_positions}
@@ -53,13 +54,17 @@ module _ (lists : Lists) (number : ℕ) (all : List OrderPos) (unlike : AreUnlik
       let u = front_unlike state.lists.positions rows all is unlike in
       record { stand = g.sound.ordered.stand; secrets = u.secrets; places = u.places }
 
-  puts_lead : (rows : List OrderPos) (id : ℕ) (state put : State) → TakesSome (length rows) id state.lists.positions → AreCounted id rows → AllByRecursion (IsOwn lists number) rows → AllByRecursion (λ p. has_own_secret p ≡ true) rows → AllByRecursion IsLimitedPosition rows → Goes lists number id state → state.lists.positions ++ rows ≡ all → with_positions rows (Ok state) ≡ Ok put → LeadTo (map PutPosition rows) state.lists put.lists
+  puts_lead : (rows : List OrderPos) (id : ℕ) (state put : State) → TakesSome (length rows) id state.lists.positions → AreCounted id rows → AllByRecursion (IsOwn lists number) rows
+      → AllByRecursion (λ p. has_own_secret p ≡ true) rows → AllByRecursion IsLimitedPosition rows → Goes lists number id state → state.lists.positions ++ rows ≡ all
+      → with_positions rows (Ok state) ≡ Ok put → LeadTo (map PutPosition rows) state.lists put.lists
   puts_lead [] id state put takes count own secrets limits g is h =
       let same : state ≡ put = cc (h) in
       subst (λ (s : State). LeadTo [] state.lists s.lists) same (leads_nowhere state.lists)
   puts_lead (row ∷ rows) id state put takes count own secrets limits g is h = by_put (position_put row state) refl h (λ on. puts_lead rows (id + 1) (changed (PutPosition row) state) put (takes_others (λ (r : OrderPos). r.id) row rows id state.lists.positions takes) count.1 own.1 secrets.1 limits.1 on (behind id row rows state count.0 g is))
     where
-      by_put : (done : Result State OrderRefusal) → position_put row state ≡ done → with_positions rows done ≡ Ok put → (Goes lists number (id + 1) (changed (PutPosition row) state) → with_positions rows (Ok (changed (PutPosition row) state)) ≡ Ok put → LeadTo (map PutPosition rows) (changed (PutPosition row) state).lists put.lists) → LeadTo (map PutPosition (row ∷ rows)) state.lists put.lists
+      by_put : (done : Result State OrderRefusal) → position_put row state ≡ done → with_positions rows done ≡ Ok put
+          → (Goes lists number (id + 1) (changed (PutPosition row) state) → with_positions rows (Ok (changed (PutPosition row) state)) ≡ Ok put → LeadTo (map PutPosition rows) (changed (PutPosition row) state).lists put.lists)
+          → LeadTo (map PutPosition (row ∷ rows)) state.lists put.lists
       by_put (Err refusal) e h more = absurd (cc (h))
       by_put (Ok made) e h more =
           let next = changed (PutPosition row) state in

@@ -16,7 +16,8 @@ use Rattle.model_rows.specs.Takes.{used, IsWithin, TakesNoMore}
 use Rattle.model_rows.proofs.Takes.{none_passes, within}
 use Rattle.model_commands.specs.declared.orders.NewOrder.{NewOrder}
 use Rattle.model_commands.specs.declared.orders.OrderRefusal.{OrderRefusal}
-use Rattle.decide_orders.specs.Created.{position_put, with_positions, AreCounted, with_order_row, order_created}
+use Rattle.decide_orders.specs.Created.{position_put, with_positions, with_order_row, order_created}
+use Rattle.decide_orders.specs.Steps.{AreCounted}
 use Rattle.decide_orders.proofs.Created.{created_is, created_moment, created_none_over}
 use Rattle.decide_orders.proofs.Puts.{put_is}
 use Rattle.decide_orders.proofs.Revivals.{weighs_positions}
@@ -50,7 +51,10 @@ puts_stand (row ∷ rows) id state after counted h = by_put (position_put row st
         let stood : position_at row.id made.lists ≡ Some row = subst (λ (s : State). position_at row.id s.lists ≡ Some row) (put_is row state made f).is (found_new row state.lists) in
         (stays row rows (id + 1) made after (omega (arith, counted.0)) counted.1 stood h, more made h)
 
-all_within : (before after : State) (rows : List OrderPos) → after.moment ≡ before.moment → AllByRecursion (λ p. position_at p.id after.lists ≡ Some p) rows → AllByRecursion (λ p. ignores after.lists p.voucher ≡ false) rows → (quotas : List Quota) → AllByRecursion (λ quota. is_over before.lists after.lists before.moment (map (λ p. Position p.id) rows) quota ≡ false) quotas → AllByRecursion (λ quota. IsWithin quota.size (used before quota) (used after quota)) quotas
+all_within : (before after : State) (rows : List OrderPos) → after.moment ≡ before.moment → AllByRecursion (λ p. position_at p.id after.lists ≡ Some p) rows
+    → AllByRecursion (λ p. ignores after.lists p.voucher ≡ false) rows → (quotas : List Quota)
+    → AllByRecursion (λ quota. is_over before.lists after.lists before.moment (map (λ p. Position p.id) rows) quota ≡ false) quotas
+    → AllByRecursion (λ quota. IsWithin quota.size (used before quota) (used after quota)) quotas
 all_within before after rows moment stand heed [] h = tt
 all_within before after rows moment stand heed (quota ∷ quotas) h =
     let weighs = weighs_positions after.lists before.moment quota rows stand heed ∙ ap (λ at. used (record after { moment = at }) quota) (sym moment) in

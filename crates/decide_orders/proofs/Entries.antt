@@ -9,7 +9,8 @@ use Rattle.model_commands.specs.declared.carts.Entry.{Entry}
 use Rattle.model_commands.specs.declared.carts.Entry.TheVariants.{New, Faulty}
 use Rattle.model_commands.specs.declared.carts.Outcome.{Outcome}
 use Rattle.model_commands.specs.declared.orders.OrderRefusal.{OrderRefusal}
-use Rattle.decide_orders.specs.Bulk.{entry_added, with_outcome, after_outcomes, all_added}
+use Rattle.decide_orders.specs.Bulk.{entry_added, with_outcome, all_added}
+use Rattle.decide_orders.specs.Steps.{after_outcomes}
 
 -- entries one after another are those in front, and then the others
 pub all_joined : (xs ys : List Entry) (draw : Draw) (state : State) → all_added (xs ++ ys) draw state ≡ after_outcomes (all_added xs draw state).1 (all_added ys draw (all_added xs draw state).0)

@@ -26,7 +26,8 @@ use Rattle.model_invariant.proofs.Changes.{carts_lead}
 use Rattle.model_invariant.proofs.OrderLowers.{moved_order_lowers}
 use Rattle.model_invariant.proofs.SoundOrders.{sound_ended_order, sound_drop_carts}
 use Rattle.model_rows.specs.Due.{is_due, due_orders, dead_carts}
-use Rattle.decide_orders.specs.Expired.{expired_row, put_expired, expired_in, with_orders, expired_at, each_expired, expired_rows, expired_changes, orders_expired, dropped_changes, carts_dropped}
+use Rattle.decide_orders.specs.Expired.{expired_row, expired_rows, expired_changes, orders_expired, dropped_changes, carts_dropped}
+use Rattle.decide_orders.specs.Steps.{put_expired, expired_in, with_orders, expired_at, each_expired}
 use Rattle.decide_orders.proofs.Overdue.{expired_at_once, expiry_leads_there, dropped_at_once}
 
 -- the order of a number stands under its own

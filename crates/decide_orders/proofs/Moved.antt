@@ -71,7 +71,9 @@ module _ (number : ℕ) (change : Move) (before after : State) (rows : OrderRows
     abbrev asked : Transition → Order
     asked turn = moved_row old turn.status change
 
-    with_tests : (turn : Transition) → turned old.status change ≡ Some turn → moved_to (asked turn) before ≡ (after, rows) → (turn.revival ≡ true → have_uses_again (asked turn) before ≡ true) → (turn.revival ≡ true → have_budgets_again (asked turn) before ≡ true) → (turn.revival ≡ true → over_again (asked turn) before ≡ None) → IsMoved number change before after rows
+    with_tests : (turn : Transition) → turned old.status change ≡ Some turn → moved_to (asked turn) before ≡ (after, rows)
+        → (turn.revival ≡ true → have_uses_again (asked turn) before ≡ true) → (turn.revival ≡ true → have_budgets_again (asked turn) before ≡ true)
+        → (turn.revival ≡ true → over_again (asked turn) before ≡ None) → IsMoved number change before after rows
     with_tests turn turns is uses budgets not_over =
         let same : order_rows (asked turn) before ≡ rows = ap (λ (x : State × OrderRows). x.1) is in
         let row : asked turn ≡ rows.order = ap (λ (r : OrderRows). r.order) same in
@@ -178,7 +180,9 @@ module _ (number : ℕ) (change : Move) (before after : State) (rows : OrderRows
       subst (λ (s : State). TakesNoMore before s) m.is_after (revival_takes_no_more before rows.order sound.ids.positions.in_order heeds weighed)
 
   -- any other move raises no usage of a quota that stands, unless it takes places again that exits set free
-  pub moved_lowers : (old : Order) (quota : Quota) → IsSound before → quota_at quota.id before.lists.catalogue ≡ Some quota → order_at number before.lists ≡ Some old → (is_in_force old.status ≡ true) ⊎ (is_in_force rows.order.status ≡ false) → refills before.lists before.moment quota old rows.order.status ≡ false → Gives (order_moved number change before) → used after quota ≤ used before quota
+  pub moved_lowers : (old : Order) (quota : Quota) → IsSound before → quota_at quota.id before.lists.catalogue ≡ Some quota → order_at number before.lists ≡ Some old
+      → (is_in_force old.status ≡ true) ⊎ (is_in_force rows.order.status ≡ false) → refills before.lists before.moment quota old rows.order.status ≡ false
+      → Gives (order_moved number change before) → used after quota ≤ used before quota
   moved_lowers old quota sound stands stood which again h = subst (λ (s : State). used s quota ≤ used before quota) m.is_after (by_which which)
     where
       m : IsMoved number change before after rows

@@ -13,7 +13,8 @@ use Rattle.model_rows.specs.Conditions.{is_live_cart}
 use Rattle.model_rows.specs.Lists.{Lists, State}
 use Rattle.model_rows.proofs.EachRow.{all_weaker, key-row_at}
 use Rattle.model_rows.specs.Due.{is_due, due_orders, dead_carts}
-use Rattle.decide_orders.specs.Expired.{expired_row, expired_if_due, orders_expired, expired_changes, carts_dropped, put_expired, expired_in, with_orders, expired_at, each_expired, expiry_of, each_expiry}
+use Rattle.decide_orders.specs.Expired.{expired_row, expired_if_due, orders_expired, expired_changes, carts_dropped}
+use Rattle.decide_orders.specs.Steps.{put_expired, expired_in, with_orders, expired_at, each_expired, expiry_of, each_expiry}
 
 -- the ids of some of the rows, which are all from n on
 module _ {T : Type 0} (key : T → ℕ) (test : T → Bool) where

@@ -23,7 +23,8 @@ use Rattle.model_commands.specs.declared.carts.Asked.{Asked}
 use Rattle.model_commands.specs.declared.orders.OrderRefusal.{OrderRefusal}
 use Rattle.model_commands.specs.declared.orders.OrderRefusal.TheVariants.{Voucher as OfVoucher}
 use Rattle.decide_orders.specs.Sold.{sold_for}
-use Rattle.decide_orders.specs.Created.{IsReady, AreCounted, with_order_row, position_put, position_row, position_for, rows_for, with_positions}
+use Rattle.decide_orders.specs.Created.{with_order_row, position_put, position_row, position_for, rows_for, with_positions}
+use Rattle.decide_orders.specs.Steps.{IsReady, AreCounted}
 use Rattle.decide_orders.proofs.Puts.{put_is}
 
 -- an order of the next id can be put

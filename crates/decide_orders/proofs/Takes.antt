@@ -41,7 +41,9 @@ unfolding weighed
 weighs_all lists at quota row heeds =
     less_none (is_free (after_change (PutCart row) lists) at quota) (Cart row.id) (total (usage_of (after_change (PutCart row) lists) at quota)) (not_free lists at quota row heeds)
 
-all_within : (before : State) (row : CartPos) (quotas : List Quota) → ignores (after_change (PutCart row) before.lists) row.voucher ≡ false → AllByRecursion (λ quota. is_over before.lists (after_change (PutCart row) before.lists) before.moment (Cart row.id ∷ []) quota ≡ false) quotas → AllByRecursion (λ quota. IsWithin quota.size (used before quota) (used (with_cart row before) quota)) quotas
+all_within : (before : State) (row : CartPos) (quotas : List Quota) → ignores (after_change (PutCart row) before.lists) row.voucher ≡ false
+    → AllByRecursion (λ quota. is_over before.lists (after_change (PutCart row) before.lists) before.moment (Cart row.id ∷ []) quota ≡ false) quotas
+    → AllByRecursion (λ quota. IsWithin quota.size (used before quota) (used (with_cart row before) quota)) quotas
 all_within before row [] heeds h = tt
 all_within before row (quota ∷ quotas) heeds h =
     (within quota.size (used before quota) (used (with_cart row before) quota) (subst (λ (n : ℕ). is_over_size quota.size (used before quota) n ≡ false) (weighs_all before.lists before.moment quota row heeds) h.0), all_within before row quotas heeds h.1)

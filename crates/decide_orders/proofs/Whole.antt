@@ -31,7 +31,8 @@ use Rattle.model_commands.specs.declared.orders.OrderRefusal.TheVariants.{Vouche
 use Rattle.model_commands.specs.declared.orders.Start.{Start}
 use Rattle.model_commands.specs.declared.orders.Start.TheVariants as starts
 use Rattle.model_commands.specs.declared.vouchers.VoucherRefusal.TheVariants.{NoHeadroom}
-use Rattle.decide_orders.specs.Created.{AreCounted, IsReady, order_row, position_put, rows_for, with_order_row, with_positions}
+use Rattle.decide_orders.specs.Created.{order_row, position_put, rows_for, with_order_row, with_positions}
+use Rattle.decide_orders.specs.Steps.{AreCounted, IsReady}
 use Rattle.decide_orders.specs.Whole.{are_used_within, put_whole, with_all}
 use Rattle.decide_orders.proofs.Created.{IsOwn, are_own}
 use Rattle.decide_orders.proofs.Rows.{counted, ready_order, ready_put}

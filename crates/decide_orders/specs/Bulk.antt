@@ -1,5 +1,5 @@
 -- Adding many cart positions in one call: each entry by itself, after those before it.
-use Rattle.std.specs.Prelude.{ℕ, nat_lt, List, [], ◌∷◌, ◌++◌, length, Option, Some, None, Result, Ok, Err, if◌then◌else◌}
+use Rattle.std.specs.Prelude.{ℕ, nat_lt, List, [], ◌∷◌, length, Option, Some, None, Result, Ok, Err, if◌then◌else◌}
 use Rattle.std.specs.List.{filter_map}
 use Rattle.base_values.specs.declared.draw.Draw.{Draw}
 use Rattle.model_rows.specs.declared.rows.CartPos.{CartPos}
@@ -27,10 +27,6 @@ entry_added (entries.Faulty fault) draw state = (state, outcomes.Faulty fault)
 -- an outcome in front of those of the rest
 abbrev pub with_outcome : Outcome → State × List Outcome → State × List Outcome
 with_outcome outcome rest = (rest.0, outcome ∷ rest.1)
-
--- outcomes in front of others
-abbrev pub after_outcomes : List Outcome → State × List Outcome → State × List Outcome
-after_outcomes outcomes rest = (rest.0, outcomes ++ rest.1)
 
 -- one entry after another, whatever becomes of each
 abbrev pub all_added : List Entry → Draw → State → State × List Outcome

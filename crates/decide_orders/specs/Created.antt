@@ -1,9 +1,8 @@
 -- Making an order out of carts.
-use Rattle.std.specs.Prelude.{◌≡◌, ℕ, ◌+◌, ◌≤◌, Bool, ◌&&◌, nat_lt, List, [], ◌∷◌, ◌++◌, ◌==◌, length, map, min, unwrap_or, Result, Ok, Err}
+use Rattle.std.specs.Prelude.{ℕ, ◌+◌, Bool, ◌&&◌, nat_lt, List, [], ◌∷◌, ◌++◌, ◌==◌, length, map, min, unwrap_or, Result, Ok, Err}
 use Rattle.base_values.specs.Deciding.{◌>>=◌, ◌>>◌, check, refuse_if, refuse_some, map_err}
 use Rattle.base_values.specs.Moments.{last_moment}
 use Rattle.base_values.specs.Secrets.{secret}
-use Rattle.base_sorted.specs.Tables.{AreInOrder}
 use Rattle.base_values.specs.declared.draw.Draw.{Draw}
 use Rattle.model_catalogue.specs.declared.refusal.CatalogueRefusal.TheVariants.{Full}
 use Rattle.model_rows.specs.declared.rows.Order.{Order}
@@ -16,9 +15,8 @@ use Rattle.model_rows.specs.Lists.{Lists, State}
 use Rattle.model_rows.specs.Change.{changed, without_carts}
 use Rattle.model_rows.specs.Consumed.{consumed}
 use Rattle.model_rows.specs.Full.{takes_order, takes_positions}
-use Rattle.model_rows.specs.Headroom.{has_use, AllHaveHeadroom}
+use Rattle.model_rows.specs.Headroom.{has_use}
 use Rattle.model_rows.specs.Over.{first_over}
-use Rattle.model_invariant.specs.Ids.{AreNumbered}
 use Rattle.model_invariant.specs.Positions.{most_positions}
 use Rattle.model_commands.specs.declared.vouchers.VoucherRefusal.TheVariants.{Catalogue, NoHeadroom, OverBudget, SoldOut}
 use Rattle.model_commands.specs.declared.orders.NewOrder.{NewOrder}
@@ -104,18 +102,6 @@ takes_whole count state = takes_order state && takes_positions count state
 -- the next ids, with the order's and its positions' counted as used
 abbrev pub with_ids_used : ℕ → State → State
 with_ids_used count state = record state { next = record state.next { order = state.next.order + 1; position = state.next.position + count } }
-
--- the next order position, of this id, can be put
-pub record IsReady (id : ℕ) (state : State) : Type 0 where
-  pub from_one : 1 ≤ id
-  pub positions : AreNumbered (λ r. r.id) id state.lists.positions
-  pub vouchers : AreInOrder (λ r. r.id) state.lists.vouchers
-  pub headroom : AllHaveHeadroom state.moment state.lists
-
--- the ids of these rows count on from this one
-abbrev pub AreCounted : ℕ → List OrderPos → Type 0
-AreCounted id [] = Unit {0}
-AreCounted id (row ∷ rows) = (row.id ≡ id) × AreCounted (id + 1) rows
 
 -- the box office once their ids count as used, and the order with its positions
 abbrev pub order_made : Order → List OrderPos → State → State × OrderRows

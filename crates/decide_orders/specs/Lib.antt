@@ -3,6 +3,7 @@ pub mod Usable
 pub mod Sold
 pub mod Carts
 pub mod Bulk
+pub mod Steps
 pub mod Created
 pub mod Whole
 pub mod Moves
@@ -10,3 +11,5 @@ pub mod Dropped
 pub mod Expired
 pub mod Places
 pub mod Drafts
+pub mod Puts
+pub mod Done

@@ -1,5 +1,5 @@
 -- The moves of an order.
-use Rattle.std.specs.Prelude.{ℕ, ◌+◌, Bool, true, false, Option, Some, None, Result, Ok, if◌then◌else◌}
+use Rattle.std.specs.Prelude.{ℕ, Bool, true, false, Option, Some, None, Result, Ok, if◌then◌else◌}
 use Rattle.std.specs.Option.{ok_or}
 use Rattle.base_values.specs.Deciding.{◌>>=◌, ◌>>◌, check, refuse_some}
 use Rattle.model_rows.specs.declared.rows.Order.{Order}
@@ -10,9 +10,8 @@ use Rattle.model_rows.specs.declared.changes.Change.TheVariants.{PutOrder}
 use Rattle.model_rows.specs.Budgets.{are_within}
 use Rattle.model_rows.specs.Lists.{State, order_at, positions_of}
 use Rattle.model_rows.specs.Change.{after_change, changed}
-use Rattle.model_rows.specs.Headroom.{has_room, have_room, held}
+use Rattle.model_rows.specs.Headroom.{have_room}
 use Rattle.model_rows.specs.Over.{first_over}
-use Rattle.model_rows.specs.Usage.{redeemed}
 use Rattle.model_invariant.specs.Positions.{by_positionid}
 use Rattle.model_commands.specs.declared.vouchers.VoucherRefusal.TheVariants.{NoHeadroom, OverBudget, SoldOut}
 use Rattle.model_commands.specs.declared.orders.Move.{Move}
@@ -57,14 +56,6 @@ end_after change old = old
 -- an order with the status that follows, and with another end where the move sets one
 abbrev pub moved_row : Order → Status → Move → Order
 moved_row order status change = record order { status = status; expires = end_after change order.expires }
-
--- how often a voucher is used once the order has come back
-abbrev pub uses_again : Order → State → ℕ → ℕ
-uses_again row state voucher = redeemed voucher (after_change (PutOrder row) state.lists) + held state.moment voucher state.lists
-
--- a voucher, if there is one, has the uses that the order takes again
-abbrev pub has_room_again : Order → State → Option ℕ → Bool
-has_room_again row state voucher = has_room state.moment (after_change (PutOrder row) state.lists) voucher
 
 -- the vouchers of the order's positions have the uses that it takes again
 abbrev pub have_uses_again : Order → State → Bool

@@ -7,11 +7,12 @@ ghost use Rattle.draft_changes.specs.DraftState.{now, back, Extends, IsMarkOf};
 ghost use Rattle.model_rows.specs.declared.changes.Change.TheVariants.{PutPosition, DropCart};
 ghost use Rattle.model_rows.specs.Change.{without_carts};
 ghost use Rattle.model_catalogue.specs.Limits.{last_id};
-ghost use Rattle.model_invariant.specs.Sound.{IsSound};
-ghost use Rattle.decide_orders.specs.Created.{order_changes, order_created, counts_test, order_row, position_for, position_put, with_positions, with_order_row, order_placed, IsReady, AreCounted, rows_asked, rows_put, takes_whole, order_made};
+ghost use Rattle.decide_orders.specs.Created.{order_changes, order_created, counts_test, order_row, position_for, position_put, with_positions, with_order_row, order_placed, rows_asked, rows_put, takes_whole, order_made};
+ghost use Rattle.decide_orders.specs.Steps.{IsReady, AreCounted};
 ghost use Rattle.decide_orders.specs.Places.{own_positions};
+ghost use Rattle.decide_orders.specs.Puts.{IsFresh, IsNext, ChangesBy, PutsBy, makes_order};
 
-use crate::places::test_sale;
+use crate::places::{own_rows, test_sale};
 use crate::sold::sold_for;
 use base_values::{Draw, List, Text, secret};
 use book_usage::Book;
@@ -38,11 +39,9 @@ pub fn create<B: Book>(
     draw: Draw,
     new: &NewOrder,
 ) -> Result<OrderRows, OrderRefusal>
-    requires fresh { draft.old.log.changes ≡ [] }
-    requires sound { IsSound (now draft.old) }
-    ensures { DecidesBy Memory (order_created new.now draw) (λ rows.
-        order_changes new.now.consume_carts rows.order rows.positions (now draft.old).lists)
-        draft.old draft.new result }
+    requires { IsFresh draft.old }
+    ensures { DecidesBy Memory (order_created new.now draw)
+        (makes_order new.now.consume_carts (now draft.old)) draft.old draft.new result }
 {
     test_counts(new)?;
     let rows = new_rows(draft, alloc, draw, new.positions.as_slice())?;
@@ -146,9 +145,7 @@ pub(crate) fn drop_carts<B: Book>(
     alloc: Global,
     ids: &[u64],
 ) -> Result<(), AllocError>
-    ensures done { OnOk result (now draft.new ≡ without_carts ids.now (now draft.old)) }
-    ensures changes { OnOk result (Logs (map DropCart ids.now) draft.old draft.new) }
-    ensures extends { Extends draft.old draft.new }
+    ensures { ChangesBy (without_carts ids.now) (map DropCart ids.now) draft.old draft.new result }
 {
     for id in ids {
         draft.drop_cart(alloc, *id)?;
@@ -163,14 +160,9 @@ fn put_order<B: Book>(
     carts: &[Text],
     order: &Order,
 ) -> Result<(), AllocError>
-    requires fresh { draft.old.log.changes ≡ [] }
-    requires sound { IsSound (now draft.old) }
-    requires new { order.now.id ≡ (now draft.old).next.order }
-    ensures done { OnOk result (
-        now draft.new ≡ with_order_row order.now carts.now (now draft.old)) }
-    ensures changes { OnOk result (
-        Logs (order_changes carts.now order.now [] (now draft.old).lists) draft.old draft.new) }
-    ensures extends { Extends draft.old draft.new }
+    requires { IsNext order.now [] draft.old }
+    ensures { ChangesBy (with_order_row order.now carts.now)
+        (order_changes carts.now order.now [] (now draft.old).lists) draft.old draft.new result }
 {
     let ids = draft.book().carts_in(alloc, carts)?;
     drop_carts(draft, alloc, &ids)?;
@@ -185,10 +177,8 @@ fn put_position<B: Book>(
     row: &OrderPos,
 ) -> Result<(), OrderRefusal>
     requires { IsReady row.now.id (now draft.old) }
-    ensures done { OnOk result (position_put row.now (now draft.old) ≡ Ok (now draft.new)) }
-    ensures refused { RefusesBy Memory (position_put row.now (now draft.old)) result }
-    ensures changes { OnOk result (Logs (PutPosition row.now ∷ []) draft.old draft.new) }
-    ensures extends { Extends draft.old draft.new }
+    ensures { PutsBy Memory (position_put row.now) (PutPosition row.now ∷ [])
+        draft.old draft.new result }
 {
     if !draft.has_use(row.voucher) {
         return Err(OrderRefusal::Voucher(VoucherRefusal::NoHeadroom));
@@ -225,28 +215,14 @@ fn put_all<B: Book>(
     order: &Order,
     rows: &[OrderPos],
 ) -> Result<(), OrderRefusal>
-    requires fresh { draft.old.log.changes ≡ [] }
-    requires sound { IsSound (now draft.old) }
-    requires new { order.now.id ≡ (now draft.old).next.order }
-    requires counted { AreCounted (now draft.old).next.position rows.now }
-    ensures done { OnOk result (
-        rows_put order.now rows.now carts.now (now draft.old) ≡ Ok (now draft.new)) }
-    ensures refused { RefusesBy Memory
-        (rows_put order.now rows.now carts.now (now draft.old)) result }
-    ensures changes { OnOk result (Logs
-        (order_changes carts.now order.now rows.now (now draft.old).lists) draft.old draft.new) }
-    ensures extends { Extends draft.old draft.new }
+    requires { IsNext order.now rows.now draft.old }
+    ensures { PutsBy Memory (rows_put order.now rows.now carts.now)
+        (order_changes carts.now order.now rows.now (now draft.old).lists)
+        draft.old draft.new result }
 {
     let first = draft.next_position();
     put_order(draft, alloc, carts, order)?;
     put_positions(draft, alloc, first, rows)
-}
-
-// The rows of a request, by their ids.
-fn own_of(alloc: Global, rows: &[OrderPos]) -> Result<Vec<Own>, AllocError>
-    ensures { IfOk result (λ own. own.items ≡ own_positions rows.now) }
-{
-    rows.iter().map(|row| Own::Position(row.id)).collect(alloc)
 }
 
 // Whether the tables take an order and so many positions.
@@ -269,10 +245,7 @@ fn put_tested<B: Book>(
     order: &Order,
     rows: &[OrderPos],
 ) -> Result<(), OrderRefusal>
-    requires fresh { draft.old.log.changes ≡ [] }
-    requires sound { IsSound (now draft.old) }
-    requires new { order.now.id ≡ (now draft.old).next.order }
-    requires counted { AreCounted (now draft.old).next.position rows.now }
+    requires next { IsNext order.now rows.now draft.old }
     requires mark { IsMarkOf draft.old mark.now }
     requires here { back mark.now draft.old ≡ draft.old }
     requires own { own.now ≡ own_positions rows.now }
@@ -302,15 +275,11 @@ fn place<B: Book>(
     order: Order,
     rows: Vec<OrderPos>,
 ) -> Result<OrderRows, OrderRefusal>
-    requires fresh { draft.old.log.changes ≡ [] }
-    requires sound { IsSound (now draft.old) }
-    requires new { order.id ≡ (now draft.old).next.order }
-    requires counted { AreCounted (now draft.old).next.position rows.items }
-    ensures { DecidesBy Memory (order_placed order rows.items carts.now) (λ made.
-        order_changes carts.now made.order made.positions (now draft.old).lists)
-        draft.old draft.new result }
+    requires { IsNext order rows.items draft.old }
+    ensures { DecidesBy Memory (order_placed order rows.items carts.now)
+        (makes_order carts.now (now draft.old)) draft.old draft.new result }
 {
-    let own = own_of(alloc, &rows)?;
+    let own = own_rows(alloc, &rows)?;
     let mark = draft.mark();
     let put = put_tested(draft, alloc, &mark, &own, carts, &order, &rows);
     draft.end_attempt(mark, put)?;

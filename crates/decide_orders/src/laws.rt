@@ -8,10 +8,8 @@ ghost use Rattle.model_catalogue.specs.CatalogueLists.{quota_at};
 ghost use Rattle.model_catalogue.specs.declared.rows.Quota.{Quota};
 ghost use Rattle.model_rows.specs.Lists.{Lists, State, order_at};
 ghost use Rattle.model_rows.specs.Over.{ignores};
-ghost use Rattle.model_rows.specs.declared.rows.CartPos.{CartPos};
 ghost use Rattle.model_rows.specs.declared.rows.Order.{Order};
 ghost use Rattle.model_rows.specs.declared.rows.OrderPos.{OrderPos};
-ghost use Rattle.model_rows.specs.declared.rows.OrderRows.{OrderRows};
 ghost use Rattle.model_rows.specs.declared.rows.Own.{Own};
 ghost use Rattle.model_rows.specs.declared.rows.Status.{Status};
 ghost use Rattle.model_rows.specs.Refills.{refills};
@@ -26,31 +24,29 @@ ghost use Rattle.model_commands.specs.declared.orders.NewOrder.{NewOrder};
 ghost use Rattle.model_commands.specs.declared.carts.Outcome.{Outcome};
 ghost use Rattle.model_commands.specs.declared.orders.OrderRefusal.{OrderRefusal};
 ghost use Rattle.model_commands.specs.declared.vouchers.VoucherRefusal.{VoucherRefusal};
-ghost use Rattle.decide_orders.specs.Bulk.{all_added, many_added, after_outcomes};
+ghost use Rattle.decide_orders.specs.Bulk.{all_added, many_added};
+ghost use Rattle.decide_orders.specs.Steps.{after_outcomes};
 ghost use Rattle.decide_orders.specs.Carts.{position_added};
 ghost use Rattle.decide_orders.specs.Created.{after_rows, order_created, order_row, rows_for, with_order_row, with_positions, rows_asked};
+ghost use Rattle.decide_orders.specs.Done.{CartAdded, OrderMade, OrderMoved, IsRevival};
 ghost use Rattle.decide_orders.specs.Dropped.{position_dropped};
 ghost use Rattle.decide_orders.specs.Expired.{orders_expired, carts_dropped};
-ghost use Rattle.decide_orders.specs.Moves.{order_moved};
 ghost use Rattle.decide_orders.specs.Whole.{put_whole};
-ghost use Rattle.model_commands.specs.declared.orders.Move.{Move};
 ghost use Rattle.model_rows.specs.Takes.{used, TakesNoMore};
 ghost use Rattle.decide_orders.specs.Places.{own_positions, NoneIsOver, AllHeed};
 
 /// Each cart position that is added was weighed: it takes too much of no quota, where the position itself
 /// doesn't weigh if its voucher ignores quotas.
 pub fn added_none_over()
-    ensures { (new : NewCart) (draw : Draw) (before after : State) (row : CartPos) →
-        position_added new draw before ≡ Ok (after, row) →
-        NoneIsOver (Own.Cart row.id ∷ []) before after }
+    ensures { (added : CartAdded) →
+        NoneIsOver (Own.Cart added.row.id ∷ []) added.before added.after }
 {}
 
 /// Where its voucher, if it names one, heeds quotas, what is used afterwards is within each quota's size, or no
 /// more than was used before.
 pub fn added_takes_no_more()
-    ensures { (new : NewCart) (draw : Draw) (before after : State) (row : CartPos) →
-        position_added new draw before ≡ Ok (after, row) → ignores after.lists row.voucher ≡ false →
-        TakesNoMore before after }
+    ensures { (added : CartAdded) → ignores added.after.lists added.row.voucher ≡ false →
+        TakesNoMore added.before added.after }
 {}
 
 /// Each entry of a bulk call is decided by itself, after those before it: entries in two calls, one after the other,
@@ -64,9 +60,8 @@ pub fn bulk_is_each_by_itself()
 /// A sound box office stays sound where cart positions are added, one or many in one call, or one is deleted: before and
 /// after it no voucher is named by more order positions in force and live cart positions than it may be used.
 pub fn carts_keep_sound()
-    ensures added { (new : NewCart) (draw : Draw) (before after : State) (row : CartPos) →
-        IsFitCart new → IsDraw draw → IsSound before →
-        position_added new draw before ≡ Ok (after, row) → IsSound after }
+    ensures added { (added : CartAdded) → IsFitCart added.request → IsDraw added.draw →
+        IsSound added.before → IsSound added.after }
     ensures many { (entries : List Entry) (draw : Draw) (before after : State)
         (outcomes : List Outcome) →
         AllByRecursion IsFitEntry entries → IsDraw draw → IsSound before →
@@ -84,25 +79,22 @@ pub fn dropping_lowers()
 /// Each order that is made was weighed, without the carts that it consumes: it takes too much of no quota, where
 /// a position doesn't weigh if its voucher ignores quotas.
 pub fn created_none_over()
-    ensures { (new : NewOrder) (draw : Draw) (before after : State) (rows : OrderRows) →
-        order_created new draw before ≡ Ok (after, rows) →
-        NoneIsOver (own_positions rows.positions) before after }
+    ensures { (made : OrderMade) →
+        NoneIsOver (own_positions made.rows.positions) made.before made.after }
 {}
 
 /// Where all vouchers of its positions heed quotas, what is used afterwards is within each quota's size, or no more
 /// than was used before.
 pub fn created_takes_no_more()
-    ensures { (new : NewOrder) (draw : Draw) (before after : State) (rows : OrderRows) →
-        AllHeed after.lists rows.positions →
-        order_created new draw before ≡ Ok (after, rows) → TakesNoMore before after }
+    ensures { (made : OrderMade) → AllHeed made.after.lists made.rows.positions →
+        TakesNoMore made.before made.after }
 {}
 
 /// A box office in which no voucher is named too often, whose ids rise, and whose rows name what stands,
 /// is still one when an order is made.
 pub fn created_sound()
-    ensures { (new : NewOrder) (draw : Draw) (before after : State) (rows : OrderRows) →
-        IsFitOrder new → IsDraw draw → IsSound before →
-        order_created new draw before ≡ Ok (after, rows) → IsSound after }
+    ensures { (made : OrderMade) → IsFitOrder made.request → IsDraw made.draw →
+        IsSound made.before → IsSound made.after }
 {}
 
 /// The uses of an order's vouchers are tested position by position, each against what those before it left. In a sound box
@@ -141,49 +133,39 @@ pub fn asked_prices_fit()
 pub fn carts_take_no_budget()
     ensures unrefused { (new : NewCart) (draw : Draw) (state : State) →
         position_added new draw state ≢ Err (OrderRefusal.Voucher VoucherRefusal.OverBudget) }
-    ensures spent { (new : NewCart) (draw : Draw) (before after : State) (row : CartPos)
-        (voucher : ℕ) →
-        position_added new draw before ≡ Ok (after, row) →
-        spent voucher after.lists ≡ spent voucher before.lists }
+    ensures spent { (added : CartAdded) (voucher : ℕ) →
+        spent voucher added.after.lists ≡ spent voucher added.before.lists }
 {}
 
 /// Each order that comes back to life was weighed: it takes too much of no quota, where its positions don't weigh if
 /// their vouchers ignore quotas. Where all of them heed quotas, what is used afterwards is within each quota's size, or
 /// no more than was used before.
 pub fn revivals_take_no_more()
-    ensures none_over { (number : ℕ) (change : Move) (before after : State) (rows : OrderRows)
-        (old : Order) →
-        order_at number before.lists ≡ Some old → is_in_force old.status ≡ false →
-        is_in_force rows.order.status ≡ true → order_moved number change before ≡ Ok (after, rows) →
-        NoneIsOver (own_positions rows.positions) before after }
-    ensures takes { (number : ℕ) (change : Move) (before after : State) (rows : OrderRows)
-        (old : Order) →
-        IsSound before → order_at number before.lists ≡ Some old → is_in_force old.status ≡ false →
-        is_in_force rows.order.status ≡ true →
-        AllHeed after.lists rows.positions →
-        order_moved number change before ≡ Ok (after, rows) → TakesNoMore before after }
+    ensures none_over { (moved : OrderMoved) (old : Order) → IsRevival old moved →
+        NoneIsOver (own_positions moved.rows.positions) moved.before moved.after }
+    ensures takes { (moved : OrderMoved) (old : Order) → IsRevival old moved →
+        IsSound moved.before → AllHeed moved.after.lists moved.rows.positions →
+        TakesNoMore moved.before moved.after }
 {}
 
 /// In a sound box office no other move raises the usage of a quota that stands, unless it takes places of it again that exits set
 /// free: a payment that is taken back, where the quota releases places, and a paid order that ends while the voucher of one who
 /// has gone out blocks a place of it. Of a quota that keeps its places no move takes one again.
 pub fn other_moves_lower()
-    ensures lower { (number : ℕ) (change : Move) (before after : State) (rows : OrderRows)
-        (old : Order) (quota : Quota) →
-        IsSound before → quota_at quota.id before.lists.catalogue ≡ Some quota →
-        order_at number before.lists ≡ Some old →
-        (is_in_force old.status ≡ true) ⊎ (is_in_force rows.order.status ≡ false) →
-        refills before.lists before.moment quota old rows.order.status ≡ false →
-        order_moved number change before ≡ Ok (after, rows) → used after quota ≤ used before quota }
+    ensures lower { (moved : OrderMoved) (old : Order) (quota : Quota) → IsSound moved.before →
+        quota_at quota.id moved.before.lists.catalogue ≡ Some quota →
+        order_at moved.number moved.before.lists ≡ Some old →
+        (is_in_force old.status ≡ true) ⊎ (is_in_force moved.rows.order.status ≡ false) →
+        refills moved.before.lists moved.before.moment quota old moved.rows.order.status ≡ false →
+        used moved.after quota ≤ used moved.before quota }
     ensures kept { (lists : Lists) (at : ℕ) (quota : Quota) (old : Order) (status : Status) →
         quota.release_after_exit ≡ false → refills lists at quota old status ≡ false }
 {}
 
 /// A sound box office stays sound where an order is moved, to an end that is a moment.
 pub fn moves_keep_sound()
-    ensures { (number : ℕ) (change : Move) (before after : State) (rows : OrderRows) →
-        IsFitMove change → IsSound before → order_moved number change before ≡ Ok (after, rows) →
-        IsSound after }
+    ensures { (moved : OrderMoved) →
+        IsFitMove moved.change → IsSound moved.before → IsSound moved.after }
 {}
 
 /// The first 501 entries of a bulk call, and the first 501 positions of an order, are answered as all of them are: who

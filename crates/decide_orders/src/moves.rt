@@ -1,25 +1,24 @@
 //! The moves of an order.
 
-ghost use Rattle.std.specs.Prelude.{◌≡◌, ◌≢◌, true, false, IfOk, IfErr, OnErr, Some, None, [], ◌∷◌, count_by};
+ghost use Rattle.std.specs.Prelude.{◌≡◌, ◌≢◌, true, Ok, IfOk, IfErr, Some, None, count_by};
 ghost use Rattle.model_commands.specs.declared.orders.OrderRefusal.TheVariants.{Memory};
-ghost use Rattle.draft_changes.specs.Decides.{Logs, DecidesBy};
-ghost use Rattle.draft_changes.specs.DraftState.{now, Extends};
-ghost use Rattle.model_rows.specs.declared.changes.Change.TheVariants.{PutOrder};
+ghost use Rattle.draft_changes.specs.Decides.{DecidesBy};
+ghost use Rattle.draft_changes.specs.DraftState.{now};
 ghost use Rattle.model_rows.specs.Lists.{order_at, positions_of};
-ghost use Rattle.model_invariant.specs.Sound.{IsSound};
 ghost use Rattle.model_rows.specs.Conditions.{is_in_force, names};
 ghost use Rattle.model_rows.specs.Usage.{stands_as};
-ghost use Rattle.decide_orders.specs.Moves.{to, revived, turned, end_after, moved_row, moved_to, moved_as, have_uses_again, revival, order_moved, uses_again, has_room_again};
-ghost use Rattle.decide_orders.specs.Places.{own_positions};
+ghost use Rattle.decide_orders.specs.Moves.{to, revived, turned, end_after, moved_row, moved_to, moved_as, have_uses_again, revival, order_moved};
+ghost use Rattle.decide_orders.specs.Steps.{uses_again, has_room_again};
+ghost use Rattle.decide_orders.specs.Puts.{IsFresh, ComesBack, puts_order};
 
-use crate::places::test_sale;
+use crate::places::{own_rows, test_sale};
 use base_values::Moment;
 use book_usage::{Book, LookUps};
 use draft_changes::Draft;
 use model_commands::{Move, OrderRefusal, VoucherRefusal};
 use model_invariant::numbers::by_positionid;
-use model_rows::{Order, OrderPos, OrderRows, Own, Status};
-use std::alloc::{AllocError, Global};
+use model_rows::{Order, OrderPos, OrderRows, Status};
+use std::alloc::Global;
 
 /// The status that follows, and whether an order comes back to life.
 #[derive(Clone, Copy, PartialEq, Eq)]
@@ -75,10 +74,8 @@ pub fn move_order<B: Book>(
     number: u64,
     change: Move,
 ) -> Result<OrderRows, OrderRefusal>
-    requires fresh { draft.old.log.changes ≡ [] }
-    requires sound { IsSound (now draft.old) }
-    ensures { DecidesBy Memory (order_moved number change) (λ rows. PutOrder rows.order ∷ [])
-        draft.old draft.new result }
+    requires { IsFresh draft.old }
+    ensures { DecidesBy Memory (order_moved number change) puts_order draft.old draft.new result }
 {
     let order = order_of(draft, alloc, number)?;
     let turn = turn_of(order.status, &change)?;
@@ -119,12 +116,11 @@ fn move_as<B: Book>(
     change: &Move,
     turn: Transition,
 ) -> Result<OrderRows, OrderRefusal>
-    requires fresh { draft.old.log.changes ≡ [] }
-    requires sound { IsSound (now draft.old) }
+    requires fresh { IsFresh draft.old }
     requires stands { order_at order.id (now draft.old).lists ≡ Some order }
     requires turn { turned order.status change.now ≡ Some turn }
-    ensures { DecidesBy Memory (λ state. moved_as order change.now state turn)
-        (λ rows. PutOrder rows.order ∷ []) draft.old draft.new result }
+    ensures { DecidesBy Memory (λ state. moved_as order change.now state turn) puts_order
+        draft.old draft.new result }
 {
     let row = moved_row(order, turn.status, change);
     if turn.revival {
@@ -162,15 +158,11 @@ fn put<B: Book>(
     alloc: Global,
     row: Order,
 ) -> Result<OrderRows, OrderRefusal>
-    requires fresh { draft.old.log.changes ≡ [] }
-    requires sound { IsSound (now draft.old) }
+    requires fresh { IsFresh draft.old }
     requires kept { is_in_force row.status ≡ true →
         stands_as is_in_force (order_at row.id (now draft.old).lists) ≡ true }
-    ensures done { IfOk result (λ rows. (now draft.new, rows) ≡ moved_to row (now draft.old)) }
-    ensures refused { IfErr result (λ e. e ≡ Memory) }
-    ensures changes { IfOk result (λ rows. Logs (PutOrder rows.order ∷ []) draft.old draft.new) }
-    ensures extends { Extends draft.old draft.new }
-    ensures same { OnErr result (draft.new ≡ draft.old) }
+    ensures { DecidesBy Memory (λ state. Ok (moved_to row state)) puts_order
+        draft.old draft.new result }
 {
     let positions = by_positionid(alloc, draft.book().positions_of(alloc, row.id)?)?;
     let order = row.copy(alloc)?;
@@ -186,12 +178,9 @@ fn revive<B: Book>(
     alloc: Global,
     row: Order,
 ) -> Result<OrderRows, OrderRefusal>
-    requires fresh { draft.old.log.changes ≡ [] }
-    requires sound { IsSound (now draft.old) }
-    requires ended { stands_as is_in_force (order_at row.id (now draft.old).lists) ≡ false }
-    requires back { is_in_force row.status ≡ true }
-    ensures { DecidesBy Memory (revival row) (λ rows. PutOrder rows.order ∷ [])
-        draft.old draft.new result }
+    requires fresh { IsFresh draft.old }
+    requires again { ComesBack row (now draft.old) }
+    ensures { DecidesBy Memory (revival row) puts_order draft.old draft.new result }
 {
     let positions = draft.book().positions_of(alloc, row.id)?;
     if !have_uses_again(draft, &row, positions.as_slice()) {
@@ -207,21 +196,10 @@ fn revive<B: Book>(
     Ok(OrderRows { order, positions })
 }
 
-// The positions as rows that the request revives.
-fn own_rows(alloc: Global, positions: &[OrderPos]) -> Result<Vec<Own>, AllocError>
-    ensures { IfOk result (λ own. own.items ≡ own_positions positions.now) }
-{
-    positions
-        .iter()
-        .map(|row| Own::Position(row.id))
-        .collect(alloc)
-}
-
 // Whether the vouchers of the positions have the uses that the order takes again.
 fn have_uses_again<B: Book>(draft: &Draft<'_, B>, row: &Order, positions: &[OrderPos]) -> bool
     requires positions { positions.now ≡ positions_of row.now.id (now draft.now).lists }
-    requires ended { stands_as is_in_force (order_at row.now.id (now draft.now).lists) ≡ false }
-    requires back { is_in_force row.now.status ≡ true }
+    requires again { ComesBack row.now (now draft.now) }
     ensures { result ≡ have_uses_again row.now (now draft.now) }
 {
     positions.iter().all(|position| has_room_again(draft, row, positions, position.voucher))
@@ -235,8 +213,7 @@ fn has_room_again<B: Book>(
     voucher: Option<u64>,
 ) -> bool
     requires positions { positions.now ≡ positions_of row.now.id (now draft.now).lists }
-    requires ended { stands_as is_in_force (order_at row.now.id (now draft.now).lists) ≡ false }
-    requires back { is_in_force row.now.status ≡ true }
+    requires again { ComesBack row.now (now draft.now) }
     ensures { result ≡ has_room_again row.now (now draft.now) voucher }
 {
     let Some(id) = voucher else {
@@ -258,8 +235,7 @@ fn uses_again<B: Book>(
     voucher: u64,
 ) -> u128
     requires positions { positions.now ≡ positions_of row.now.id (now draft.now).lists }
-    requires ended { stands_as is_in_force (order_at row.now.id (now draft.now).lists) ≡ false }
-    requires back { is_in_force row.now.status ≡ true }
+    requires again { ComesBack row.now (now draft.now) }
     ensures { result ≡ uses_again row.now (now draft.now) voucher }
 {
     draft.uses(voucher) + named_by(positions, voucher) as u128

@@ -1,11 +1,12 @@
 //! What is overdue: orders that expire, and cart positions that go.
 
-ghost use Rattle.std.specs.Prelude.{◌≡◌, length, IfOk, OnOk, OnErr};
-ghost use Rattle.draft_changes.specs.Decides.{Logs};
-ghost use Rattle.draft_changes.specs.DraftState.{now, Extends};
+ghost use Rattle.std.specs.Prelude.{◌≡◌, IfOk};
+ghost use Rattle.draft_changes.specs.DraftState.{now};
 ghost use Rattle.model_rows.specs.Lists.{order_at};
 ghost use Rattle.model_invariant.specs.Sound.{IsSound};
-ghost use Rattle.decide_orders.specs.Expired.{expired_row, expired_changes, orders_expired, expired_at, each_expired, expiry_of, each_expiry, dropped_changes, carts_dropped, due_now, dead_now};
+ghost use Rattle.decide_orders.specs.Expired.{expired_row, expired_changes, orders_expired, dropped_changes, carts_dropped, dead_now};
+ghost use Rattle.decide_orders.specs.Steps.{expired_at, each_expired, expiry_of, each_expiry, due_now};
+ghost use Rattle.decide_orders.specs.Puts.{ChangesBy, DoesAll};
 
 use crate::creating::drop_carts;
 use book_usage::{Book, LookUps};
@@ -18,11 +19,7 @@ use std::alloc::{AllocError, Global};
 pub fn expire_orders<B: Book>(draft: &mut Draft<'_, B>, alloc: Global) -> Result<u64, AllocError>
     requires sound { IsSound (now draft.old) }
     requires orders { (now draft.old).lists.orders ≡ draft.old.log.base.orders }
-    ensures done { OnOk result (now draft.new ≡ orders_expired (now draft.old)) }
-    ensures count { IfOk result (λ n. n ≡ length (due_now (now draft.old))) }
-    ensures extends { Extends draft.old draft.new }
-    ensures same { OnErr result (draft.new ≡ draft.old) }
-    ensures changes { OnOk result (Logs (expired_changes (now draft.old)) draft.old draft.new) }
+    ensures { DoesAll orders_expired due_now expired_changes draft.old draft.new result }
 {
     let ids = draft.book().due_orders(alloc, draft.moment())?;
     let mark = draft.mark();
@@ -37,10 +34,8 @@ fn expire_each<B: Book>(
     alloc: Global,
     ids: &[u64],
 ) -> Result<(), AllocError>
-    ensures done { OnOk result (now draft.new ≡ each_expired ids.now (now draft.old)) }
-    ensures changes { OnOk result (
-        Logs (each_expiry ids.now (now draft.old).lists.orders) draft.old draft.new) }
-    ensures extends { Extends draft.old draft.new }
+    ensures { ChangesBy (each_expired ids.now) (each_expiry ids.now (now draft.old).lists.orders)
+        draft.old draft.new result }
 {
     for id in ids {
         expire(draft, alloc, *id)?;
@@ -50,10 +45,8 @@ fn expire_each<B: Book>(
 
 // Expires the order of a number, if it stands.
 fn expire<B: Book>(draft: &mut Draft<'_, B>, alloc: Global, id: u64) -> Result<(), AllocError>
-    ensures done { OnOk result (now draft.new ≡ expired_at id (now draft.old)) }
-    ensures changes { OnOk result (
-        Logs (expiry_of (order_at id (now draft.old).lists)) draft.old draft.new) }
-    ensures extends { Extends draft.old draft.new }
+    ensures { ChangesBy (expired_at id) (expiry_of (order_at id (now draft.old).lists))
+        draft.old draft.new result }
 {
     let row = match draft.rows().order(id) {
         None => return Ok(()),
@@ -78,11 +71,7 @@ fn expired_row(alloc: Global, order: &Order) -> Result<Order, AllocError>
 /// Answers how many. `Err` where there is no memory; the draft is then as it was.
 pub fn drop_dead_carts<B: Book>(draft: &mut Draft<'_, B>, alloc: Global) -> Result<u64, AllocError>
     requires carts { (now draft.old).lists.carts ≡ draft.old.log.base.carts }
-    ensures done { OnOk result (now draft.new ≡ carts_dropped (now draft.old)) }
-    ensures count { IfOk result (λ n. n ≡ length (dead_now (now draft.old))) }
-    ensures extends { Extends draft.old draft.new }
-    ensures same { OnErr result (draft.new ≡ draft.old) }
-    ensures changes { OnOk result (Logs (dropped_changes (now draft.old)) draft.old draft.new) }
+    ensures { DoesAll carts_dropped dead_now dropped_changes draft.old draft.new result }
 {
     draft.known();
     let ids = draft.book().dead_carts(alloc, draft.moment())?;

@@ -1,10 +1,10 @@
 //! Whether what was put may stay.
 
-ghost use Rattle.std.specs.Prelude.{◌≡◌};
+ghost use Rattle.std.specs.Prelude.{◌≡◌, IfOk};
 ghost use Rattle.draft_changes.specs.Decides.{first_over_since};
 ghost use Rattle.draft_changes.specs.DraftState.{now, IsMarkOf};
 ghost use Rattle.model_rows.specs.Budgets.{are_within};
-ghost use Rattle.decide_orders.specs.Places.{places_test, sale_test};
+ghost use Rattle.decide_orders.specs.Places.{own_positions, places_test, sale_test};
 
 use crate::budgets::are_within;
 use book_usage::Book;
@@ -12,6 +12,17 @@ use draft_changes::{Draft, Mark};
 use model_catalogue::CatalogueRefusal;
 use model_commands::{OrderRefusal, VoucherRefusal};
 use model_rows::{OrderPos, Own};
+use std::alloc::{AllocError, Global};
+
+/// The positions, as rows of the request's own.
+pub(crate) fn own_rows(alloc: Global, positions: &[OrderPos]) -> Result<Vec<Own>, AllocError>
+    ensures { IfOk result (λ own. own.items ≡ own_positions positions.now) }
+{
+    positions
+        .iter()
+        .map(|row| Own::Position(row.id))
+        .collect(alloc)
+}
 
 /// No quota may be over since the mark, where the own rows don't weigh if their vouchers ignore quotas; and the tables
 /// have to take the rows. Refusals, in this order: 28 `SoldOut` with the least such quota; 16 `Full`.

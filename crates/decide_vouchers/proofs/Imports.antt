@@ -17,7 +17,8 @@ use Rattle.model_commands.specs.declared.vouchers.NewVoucher.{NewVoucher}
 use Rattle.model_commands.specs.declared.vouchers.Verdict.{Verdict}
 use Rattle.model_commands.specs.declared.vouchers.Verdict.TheVariants.{Added, Same, Other, Refused}
 use Rattle.model_commands.specs.declared.vouchers.VoucherRefusal.{VoucherRefusal}
-use Rattle.decide_vouchers.specs.Imported.{namesake, made_verdict, imported_beside, row_imported, with_verdict, after_verdicts, rows_imported, put_by, import_changes, is_as_given, verdict_on}
+use Rattle.decide_vouchers.specs.Imported.{namesake, made_verdict, imported_beside, row_imported, with_verdict, rows_imported, put_by, import_changes, is_as_given, verdict_on}
+use Rattle.decide_vouchers.specs.Steps.{after_verdicts}
 use Rattle.decide_vouchers.specs.Made.{voucher_made}
 use Rattle.decide_vouchers.proofs.Made.{made_is, made_sound, made_moment}
 

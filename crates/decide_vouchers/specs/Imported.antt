@@ -1,5 +1,5 @@
 -- The rows of a voucher file: each by itself, after those before it.
-use Rattle.std.specs.Prelude.{ℕ, Bool, true, false, ◌&&◌, ◌==◌, not, List, [], ◌∷◌, ◌++◌, Option, Some, None, Result, Ok, Err, if◌then◌else◌}
+use Rattle.std.specs.Prelude.{ℕ, Bool, true, false, ◌&&◌, ◌==◌, not, List, [], ◌∷◌, Option, Some, None, Result, Ok, Err, if◌then◌else◌}
 use Rattle.std.specs.List.{filter_map}
 use Rattle.base_values.specs.Texts.{same_text}
 use Rattle.base_values.specs.declared.draw.Draw.{Draw}
@@ -76,10 +76,6 @@ row_imported new draw state = imported_beside (namesake new.code state.lists) ne
 -- a verdict in front of those of the rest
 abbrev pub with_verdict : Verdict → State × List Verdict → State × List Verdict
 with_verdict verdict rest = (rest.0, verdict ∷ rest.1)
-
--- verdicts in front of others
-abbrev pub after_verdicts : List Verdict → State × List Verdict → State × List Verdict
-after_verdicts verdicts rest = (rest.0, verdicts ++ rest.1)
 
 -- the box office with all that could be added, and what became of each row: one after another, whatever becomes of each
 abbrev pub rows_imported : List NewVoucher → Draw → State → State × List Verdict

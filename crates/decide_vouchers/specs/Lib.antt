@@ -6,3 +6,5 @@ pub mod Made
 pub mod Changed
 pub mod Deleted
 pub mod Imported
+pub mod Steps
+pub mod Done

@@ -7,14 +7,16 @@ use Rattle.std.proofs.lemmas.List.{length-map}
 use Rattle.base_sorted.specs.Tables.{AreInOrder}
 use Rattle.model_catalogue.specs.declared.rows.Product.{Product}
 use Rattle.model_catalogue.specs.declared.rows.Quota.{Quota}
-use Rattle.model_catalogue.specs.CatalogueLists.{quota_at, quotas_of}
+use Rattle.model_catalogue.specs.CatalogueLists.{quota_at}
+use Rattle.model_catalogue.specs.Kept.{quotas_of}
 use Rattle.model_catalogue.specs.Member.{is_in}
 use Rattle.model_rows.specs.Available.{available, available_number}
 use Rattle.model_rows.specs.Lists.{Lists, State}
 use Rattle.model_rows.specs.Total.{total}
 use Rattle.model_rows.specs.Usage.{usage_of, waits_for}
 use Rattle.model_rows.proofs.Found.{each_found}
-use Rattle.decide_waiting.specs.Places.{without_waiting, used_unwaited, is_full, is_closed, first_closed, is_full_by, is_full_at, places_left, has_none_left, first_without_place, one_less, after_one, all_after_one}
+use Rattle.decide_waiting.specs.Places.{without_waiting, used_unwaited, is_full, is_closed, first_closed}
+use Rattle.decide_waiting.specs.Steps.{is_full_by, is_full_at, places_left, has_none_left, first_without_place, one_less, after_one, all_after_one}
 use Rattle.decide_waiting.specs.Sending.{place_in}
 
 -- all that is used, less the entries that wait
@@ -40,7 +42,8 @@ module _ (state : State) (product : Product) where
       by_full true rest = refl
       by_full false rest = rest
 
-      by_in : (b : Bool) → find (is_full_at state) (map (λ q. q.id) (filter (λ q. is_in q product) qs)) ≡ option_map (λ q. q.id) (find (is_closed state product) qs) → find (is_full_at state) (map (λ q. q.id) (cond b (q ∷ filter (λ q. is_in q product) qs) (filter (λ q. is_in q product) qs))) ≡ option_map (λ q. q.id) (cond (b && is_full state q) (Some q) (find (is_closed state product) qs))
+      by_in : (b : Bool) → find (is_full_at state) (map (λ q. q.id) (filter (λ q. is_in q product) qs)) ≡ option_map (λ q. q.id) (find (is_closed state product) qs)
+          → find (is_full_at state) (map (λ q. q.id) (cond b (q ∷ filter (λ q. is_in q product) qs) (filter (λ q. is_in q product) qs))) ≡ option_map (λ q. q.id) (cond (b && is_full state q) (Some q) (find (is_closed state product) qs))
       by_in false rest = rest
       by_in true rest = ap (λ (found : Option Quota). cond (is_full_by state found) (Some q.id) (find (is_full_at state) (map (λ q. q.id) (filter (λ q. is_in q product) qs)))) h.0 ∙ by_full (is_full state q) rest
 

@@ -7,8 +7,9 @@ use Rattle.model_rows.specs.declared.rows.Waiting.{Waiting}
 use Rattle.model_rows.specs.Full.{takes_voucher}
 use Rattle.model_rows.specs.Lists.{State}
 use Rattle.model_commands.specs.declared.waiting.WaitingRefusal.{WaitingRefusal}
-use Rattle.decide_waiting.specs.Sending.{CanSend, sent_changes, voucher_sent}
-use Rattle.decide_waiting.specs.Serving.{state_after, run_with, each_sent, noted, logged, run_after}
+use Rattle.decide_waiting.specs.Sending.{sent_changes, voucher_sent}
+use Rattle.decide_waiting.specs.Steps.{CanSend}
+use Rattle.decide_waiting.specs.Steps.{state_after, run_with, each_sent, noted, logged, run_after}
 use Rattle.decide_waiting.proofs.Trades.{sent_can_send}
 use Rattle.decide_waiting.proofs.Sent.{sent_is}
 

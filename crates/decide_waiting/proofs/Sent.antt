@@ -15,8 +15,10 @@ use Rattle.model_rows.proofs.EachRow.{key-row_at}
 use Rattle.model_commands.specs.declared.waiting.WaitingRefusal.{WaitingRefusal}
 use Rattle.model_commands.specs.declared.waiting.WaitingRefusal.TheVariants.{SoldOut}
 use Rattle.decide_waiting.specs.Places.{first_closed}
-use Rattle.decide_waiting.specs.Sending.{CanSend, with_its_voucher, with_sent, TradesPlace, sent_to, voucher_sent}
-use Rattle.decide_waiting.specs.Serving.{Run, run_with, state_after, each_sent, served_in_turn, served, all_sent, all_served, queue}
+use Rattle.decide_waiting.specs.Sending.{with_its_voucher, with_sent, sent_to, voucher_sent}
+use Rattle.decide_waiting.specs.Steps.{CanSend, TradesPlace}
+use Rattle.decide_waiting.specs.Serving.{served, all_sent, all_served, queue}
+use Rattle.decide_waiting.specs.Steps.{Run, run_with, state_after, each_sent, served_in_turn}
 use Rattle.decide_waiting.proofs.Served.{Turn, sound_at_once}
 use Rattle.decide_waiting.proofs.Trades.{sent_can_send, sound_can_send, sent_trades, sent_used}
 

@@ -30,7 +30,8 @@ use Rattle.model_commands.specs.declared.waiting.WaitingRefusal.{WaitingRefusal}
 use Rattle.model_invariant.proofs.MadeCodes.{made_text, next_code_its_own}
 use Rattle.decide_waiting.proofs.SentTexts.{tag_text, no_text}
 use Rattle.decide_waiting.specs.Sending.{sent_voucher, with_its_voucher, with_sent, sent_changes, voucher_sent}
-use Rattle.decide_waiting.specs.Serving.{Run, run_with, state_after, each_sent, queue, served_in_turn, all_served, served_changes}
+use Rattle.decide_waiting.specs.Serving.{queue, all_served, served_changes}
+use Rattle.decide_waiting.specs.Steps.{Run, run_with, state_after, each_sent, served_in_turn}
 use Rattle.decide_waiting.proofs.Leaves.{own_place}
 use Rattle.decide_waiting.proofs.Sent.{sent_is}
 use Rattle.decide_waiting.proofs.Served.{Turn, sound_at_once, run_at_once}
@@ -152,7 +153,9 @@ module _ (draw : Draw) (sixteen : IsDraw draw) where
   each_leads [] state sound = leads_nowhere state.lists
   each_leads (id ∷ ids) state sound = by_room (takes_voucher state) (one_leads id state sound (voucher_sent id draw state) refl (each_sent draw ids (state_after state (voucher_sent id draw state))) (each_leads ids (state_after state (voucher_sent id draw state)) (turn_sound id state (voucher_sent id draw state) refl sound)))
     where
-      by_room : (b : Bool) → LeadTo (run_with draw state (voucher_sent id draw state) (each_sent draw ids (state_after state (voucher_sent id draw state)))).changes state.lists (run_with draw state (voucher_sent id draw state) (each_sent draw ids (state_after state (voucher_sent id draw state)))).state.lists → LeadTo (Turn draw state ids id state b).changes state.lists (Turn draw state ids id state b).state.lists
+      by_room : (b : Bool)
+          → LeadTo (run_with draw state (voucher_sent id draw state) (each_sent draw ids (state_after state (voucher_sent id draw state)))).changes state.lists (run_with draw state (voucher_sent id draw state) (each_sent draw ids (state_after state (voucher_sent id draw state)))).state.lists
+          → LeadTo (Turn draw state ids id state b).changes state.lists (Turn draw state ids id state b).state.lists
       by_room true more = more
       by_room false more = leads_nowhere state.lists
 

@@ -27,8 +27,10 @@ use Rattle.model_rows.proofs.Time.{one}
 use Rattle.model_commands.specs.declared.waiting.WaitingRefusal.{WaitingRefusal}
 use Rattle.model_commands.specs.declared.waiting.WaitingRefusal.TheVariants.{Catalogue, SoldOut, AlreadySent, NoEntry}
 use Rattle.decide_waiting.specs.Places.{used_unwaited, is_closed, first_closed}
-use Rattle.decide_waiting.specs.Sending.{CanSend, sent_voucher, with_its_voucher, with_sent, sent_to, voucher_sent}
-use Rattle.decide_waiting.specs.Serving.{queue, served_in, has_place, is_served, served_after, served, all_sent, all_served, all_changes, served_changes, Run, state_after, run_with, run_after, each_sent, run_in_turn, served_in_turn}
+use Rattle.decide_waiting.specs.Sending.{sent_voucher, with_its_voucher, with_sent, sent_to, voucher_sent}
+use Rattle.decide_waiting.specs.Steps.{CanSend}
+use Rattle.decide_waiting.specs.Serving.{queue, served_in, has_place, is_served, served_after, served, all_sent, all_served, all_changes, served_changes}
+use Rattle.decide_waiting.specs.Steps.{Run, state_after, run_with, run_after, each_sent, run_in_turn, served_in_turn}
 use Rattle.decide_waiting.proofs.Trades.{sound_can_send, sent_can_send, sent_unwaited}
 use Rattle.decide_waiting.proofs.Queue.{AreApart, Waits, queue_apart, queue_waits}
 
@@ -134,7 +136,10 @@ module _ (draw : Draw) (start : State) where
       }
 
     others_wait : (es : List Waiting) → AllByRecursion (λ x. eqb entry.id x.id ≡ false) es → AllByRecursion (Waits state.lists) es → AllByRecursion (Waits (with_sent draw entry state).lists) es
-    others_wait es apart h = all_weaker (λ x. (eqb entry.id x.id ≡ false) × Waits state.lists x) (Waits (with_sent draw entry state).lists) (λ x both. (row_at-with_row (λ r. r.id) x.id (with_its_voucher state entry) state.lists.waiting ∙ ap (λ b. if b then Some (with_its_voucher state entry) else waiting_at x.id state.lists) both.0 ∙ both.1.0, both.1.1)) es (all_both (λ x. eqb entry.id x.id ≡ false) (Waits state.lists) es apart h)
+    others_wait es apart h =
+        all_weaker (λ x. (eqb entry.id x.id ≡ false) × Waits state.lists x) (Waits (with_sent draw entry state).lists)
+        (λ x both. (row_at-with_row (λ r. r.id) x.id (with_its_voucher state entry) state.lists.waiting ∙ ap (λ b. if b then Some (with_its_voucher state entry) else waiting_at x.id state.lists) both.0 ∙ both.1.0, both.1.1))
+        es (all_both (λ x. eqb entry.id x.id ≡ false) (Waits state.lists) es apart h)
 
   -- without room none is sent
   no_room : (a d p : Bool) → (a && (d && (p && false))) ≡ false

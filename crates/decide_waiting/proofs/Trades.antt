@@ -15,7 +15,7 @@ use Rattle.model_rows.specs.declared.rows.Waiting.{Waiting}
 use Rattle.model_rows.specs.declared.changes.Change.TheVariants.{PutVoucher}
 use Rattle.model_rows.specs.Change.{after_change}
 use Rattle.model_rows.specs.Fits.{fits_if, fits}
-use Rattle.model_rows.specs.Headroom.{held_in}
+use Rattle.model_rows.specs.Asked.{held_in}
 use Rattle.model_rows.specs.Lists.{State, voucher_at, waiting_at}
 use Rattle.model_invariant.specs.Sound.{IsSound}
 use Rattle.model_rows.specs.Takes.{used}
@@ -28,7 +28,8 @@ use Rattle.model_invariant.proofs.Fresh.{none_redeemed, none_held}
 use Rattle.model_rows.proofs.Time.{one}
 use Rattle.book_usage.proofs.VoucherCounts.{carts_with}
 use Rattle.decide_waiting.specs.Places.{used_unwaited}
-use Rattle.decide_waiting.specs.Sending.{sent_voucher, with_its_voucher, with_sent, place_in, TradesPlace, CanSend}
+use Rattle.decide_waiting.specs.Sending.{sent_voucher, with_its_voucher, with_sent, place_in}
+use Rattle.decide_waiting.specs.Steps.{TradesPlace, CanSend}
 
 pub sound_can_send : (state : State) → IsSound state → CanSend state
 sound_can_send state h = record { moment = h.range.moment; next = h.range.next_ids.vouchers.from_one; vouchers = h.ids.vouchers; fit = h.fit; waiting = h.ids.waiting.in_order }

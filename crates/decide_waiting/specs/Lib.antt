@@ -1,7 +1,9 @@
 pub mod Places
+pub mod Steps
 pub mod Joined
 pub mod Changed
 pub mod Left
 pub mod Sending
 pub mod Serving
 pub mod Turns
+pub mod Done

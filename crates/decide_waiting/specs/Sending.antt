@@ -1,9 +1,8 @@
 -- Sending a voucher to an entry of the waiting list.
-use Rattle.std.specs.Prelude.{◌≡◌, ℕ, ◌+◌, ◌≤◌, List, [], ◌∷◌, true, false, Some, None, Result, Ok, if◌then◌else◌, min, codes}
+use Rattle.std.specs.Prelude.{ℕ, ◌+◌, List, [], ◌∷◌, true, false, Some, None, Result, Ok, if◌then◌else◌, min, codes}
 use Rattle.std.specs.Option.{ok_or}
 use Rattle.base_values.specs.Deciding.{◌>>=◌, ◌>>◌, check, refuse_some}
 use Rattle.base_values.specs.Moments.{last_moment}
-use Rattle.base_sorted.specs.Tables.{AreInOrder}
 use Rattle.base_values.specs.declared.draw.Draw.{Draw}
 use Rattle.base_values.specs.declared.price_mode.PriceMode.TheVariants as modes
 use Rattle.model_catalogue.specs.declared.rows.Product.{Product}
@@ -11,18 +10,15 @@ use Rattle.model_catalogue.specs.declared.rows.Quota.{Quota}
 use Rattle.model_catalogue.specs.declared.refusal.CatalogueRefusal.TheVariants.{Inactive, NotSold, Full}
 use Rattle.model_catalogue.specs.CatalogueLists.{is_active, is_sold}
 use Rattle.model_catalogue.specs.Member.{is_in}
-use Rattle.model_rows.specs.declared.rows.Usage.{Usage}
 use Rattle.model_rows.specs.declared.rows.Voucher.{Voucher}
 use Rattle.model_rows.specs.declared.rows.Waiting.{Waiting}
 use Rattle.model_rows.specs.declared.changes.Change.{Change}
 use Rattle.model_rows.specs.declared.changes.Change.TheVariants.{PutVoucher, PutWaiting}
 use Rattle.model_rows.specs.Change.{changed}
-use Rattle.model_rows.specs.Fits.{AllFit}
 use Rattle.model_rows.specs.Full.{takes_voucher}
 use Rattle.model_rows.specs.Lists.{State, waiting_at}
 use Rattle.model_rows.specs.Numbered.{with_voucher}
 use Rattle.model_rows.specs.Usage.{has_none}
-use Rattle.model_invariant.specs.Ids.{AreNumbered}
 use Rattle.model_invariant.specs.MadeCodes.{made_code}
 use Rattle.model_commands.specs.declared.waiting.WaitingRefusal.{WaitingRefusal}
 use Rattle.model_commands.specs.declared.waiting.WaitingRefusal.TheVariants.{Catalogue, SoldOut, AlreadySent, NoEntry}
@@ -78,20 +74,3 @@ voucher_sent id draw state = do
 -- what one entry for the product takes of the quota
 abbrev pub place_in : Quota → Product → ℕ
 place_in quota product = if is_in quota product then 1 else 0
-
--- one waits less, and one is blocked more, in the quotas of the product
-pub record TradesPlace (quota : Quota) (product : Product) (before after : Usage) : Type 0 where
-  pub paid : after.paid ≡ before.paid
-  pub pending : after.pending ≡ before.pending
-  pub blocked : after.blocked ≡ before.blocked + place_in quota product
-  pub carts : after.carts ≡ before.carts
-  pub waiting : after.waiting + place_in quota product ≡ before.waiting
-  pub exited : after.exited ≡ before.exited
-
--- what sending rests on: part of what is sound
-pub record CanSend (state : State) : Type 0 where
-  pub moment : state.moment ≤ last_moment
-  pub next : 1 ≤ state.next.voucher
-  pub vouchers : AreNumbered (λ r. r.id) state.next.voucher state.lists.vouchers
-  pub fit : AllFit state.lists
-  pub waiting : AreInOrder (λ r. r.id) state.lists.waiting

@@ -9,17 +9,15 @@ ghost use Rattle.model_rows.specs.Lists.{Lists, State};
 ghost use Rattle.model_rows.specs.Takes.{used};
 ghost use Rattle.model_rows.specs.Usage.{usage_of};
 ghost use Rattle.model_rows.specs.Waits.{waiters};
-ghost use Rattle.model_rows.specs.declared.rows.Waiting.{Waiting};
 ghost use Rattle.base_sorted.specs.Tables.{AreInOrder};
 ghost use Rattle.model_invariant.specs.Sound.{IsSound};
 ghost use Rattle.model_commands.specs.FitRequests.{IsFitWaiting, IsFitWaitingPatch};
-ghost use Rattle.model_commands.specs.declared.waiting.NewWaiting.{NewWaiting};
-ghost use Rattle.model_commands.specs.declared.waiting.WaitingPatch.{WaitingPatch};
-ghost use Rattle.decide_waiting.specs.Joined.{entry_joined};
-ghost use Rattle.decide_waiting.specs.Changed.{entry_changed};
+ghost use Rattle.decide_waiting.specs.Done.{EntryJoined, EntryChanged, VoucherSent};
 ghost use Rattle.decide_waiting.specs.Left.{entry_left};
-ghost use Rattle.decide_waiting.specs.Sending.{place_in, TradesPlace, voucher_sent};
-ghost use Rattle.decide_waiting.specs.Serving.{served_in_turn, all_served, queue, turn};
+ghost use Rattle.decide_waiting.specs.Sending.{place_in};
+ghost use Rattle.decide_waiting.specs.Steps.{TradesPlace};
+ghost use Rattle.decide_waiting.specs.Serving.{all_served, queue, turn};
+ghost use Rattle.decide_waiting.specs.Steps.{served_in_turn};
 
 /// The queue has the entries without voucher, all of them and no others. Where ids rise, each entry goes before all that
 /// stand behind it: by priority downward, then by the moment it was made, then by id.
@@ -32,13 +30,12 @@ pub fn the_queue_is_in_turn()
 /// Sending a voucher to a waiting entry leaves every quota's usage as it was: one waits less, and one is blocked more,
 /// in exactly the quotas of the product.
 pub fn sending_keeps_usage()
-    ensures trades { (id : ℕ) (draw : Draw) (before after : State) (row : Waiting) →
-        IsSound before → voucher_sent id draw before ≡ Ok (after, row) → (quota : Quota) →
-        TradesPlace quota row.product (usage_of before.lists before.moment quota)
-        (usage_of after.lists after.moment quota) }
-    ensures used { (id : ℕ) (draw : Draw) (before after : State) (row : Waiting) →
-        IsSound before → voucher_sent id draw before ≡ Ok (after, row) → (quota : Quota) →
-        used after quota ≡ used before quota }
+    ensures trades { (sent : VoucherSent) (quota : Quota) → IsSound sent.before →
+        TradesPlace quota sent.row.product
+        (usage_of sent.before.lists sent.before.moment quota)
+        (usage_of sent.after.lists sent.after.moment quota) }
+    ensures used { (sent : VoucherSent) (quota : Quota) → IsSound sent.before →
+        used sent.after quota ≡ used sent.before quota }
 {}
 
 /// Serving one after another, each tested in the box office as it then is, sends to those who are chosen at once by the box
@@ -56,17 +53,14 @@ pub fn serving_keeps_usage()
 
 /// Joining uses one place more in each quota of the product, and leaves all others as they were.
 pub fn joining_takes_one()
-    ensures { (new : NewWaiting) (before after : State) (row : Waiting) (quota : Quota) →
-        IsSound before → entry_joined new before ≡ Ok (after, row) →
-        used after quota ≡ used before quota + place_in quota row.product }
+    ensures { (joined : EntryJoined) (quota : Quota) → IsSound joined.before →
+        used joined.after quota ≡ used joined.before quota + place_in quota joined.row.product }
 {}
 
 /// Another priority uses as much as the old one, and leaving raises no usage.
 pub fn others_raise_none()
-    ensures changed { (id : ℕ) (patch : WaitingPatch) (before after : State) (row : Waiting)
-        (quota : Quota) →
-        IsSound before → entry_changed id patch before ≡ Ok (after, row) →
-        used after quota ≡ used before quota }
+    ensures changed { (changed : EntryChanged) (quota : Quota) → IsSound changed.before →
+        used changed.after quota ≡ used changed.before quota }
     ensures left { (id : ℕ) (before after : State) (quota : Quota) → IsSound before →
         entry_left id before ≡ Ok after → used after quota ≤ used before quota }
 {}
@@ -74,15 +68,14 @@ pub fn others_raise_none()
 /// A sound box office stays sound where somebody joins, leaves or gets another priority, where a voucher is sent to an
 /// entry, and where all are served.
 pub fn waiting_keeps_sound()
-    ensures joined { (new : NewWaiting) (before after : State) (row : Waiting) → IsFitWaiting new →
-        IsSound before → entry_joined new before ≡ Ok (after, row) → IsSound after }
-    ensures changed { (id : ℕ) (patch : WaitingPatch) (before after : State) (row : Waiting) →
-        IsFitWaitingPatch patch → IsSound before → entry_changed id patch before ≡ Ok (after, row) →
-        IsSound after }
+    ensures joined { (joined : EntryJoined) →
+        IsFitWaiting joined.request → IsSound joined.before → IsSound joined.after }
+    ensures changed { (changed : EntryChanged) →
+        IsFitWaitingPatch changed.patch → IsSound changed.before → IsSound changed.after }
     ensures left { (id : ℕ) (before after : State) →
         IsSound before → entry_left id before ≡ Ok after → IsSound after }
-    ensures sent { (id : ℕ) (draw : Draw) (before after : State) (row : Waiting) → IsDraw draw →
-        IsSound before → voucher_sent id draw before ≡ Ok (after, row) → IsSound after }
+    ensures sent { (sent : VoucherSent) →
+        IsDraw sent.draw → IsSound sent.before → IsSound sent.after }
     ensures served { (draw : Draw) (before : State) →
         IsDraw draw → IsSound before → IsSound (all_served draw before).0 }
 {}

@@ -4,7 +4,8 @@ ghost use Rattle.std.specs.Prelude.{◌≡◌, Some, None, IfOk, OnOk, length, �
 ghost use Rattle.model_catalogue.specs.CatalogueLists.{quota_at};
 ghost use Rattle.model_catalogue.specs.Member.{is_in};
 ghost use Rattle.draft_changes.specs.DraftState.{now};
-ghost use Rattle.decide_waiting.specs.Places.{used_unwaited, is_full, is_full_at, first_closed, is_open, places_left, has_none_left, first_without_place, one_less, after_one, all_after_one, all_places_left};
+ghost use Rattle.decide_waiting.specs.Places.{used_unwaited, is_full, first_closed, is_open};
+ghost use Rattle.decide_waiting.specs.Steps.{is_full_at, places_left, has_none_left, first_without_place, one_less, after_one, all_after_one, all_places_left};
 
 use book_usage::Book;
 use draft_changes::Draft;

@@ -7,7 +7,8 @@ ghost use Rattle.draft_changes.specs.DraftState.{now, Extends};
 ghost use Rattle.model_rows.specs.Lists.{waiting_at};
 ghost use Rattle.model_invariant.specs.Sound.{IsSound};
 ghost use Rattle.decide_waiting.specs.Places.{first_closed};
-ghost use Rattle.decide_waiting.specs.Sending.{CanSend, sent_voucher, with_its_voucher, with_sent, sent_changes, sent_to, voucher_sent};
+ghost use Rattle.decide_waiting.specs.Sending.{sent_voucher, with_its_voucher, with_sent, sent_changes, sent_to, voucher_sent};
+ghost use Rattle.decide_waiting.specs.Steps.{CanSend};
 
 use crate::places::first_closed;
 use crate::rows::with_voucher;

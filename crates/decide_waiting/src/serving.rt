@@ -4,9 +4,11 @@ ghost use Rattle.std.specs.Prelude.{◌≡◌, IfOk, OnOk, OnErr};
 ghost use Rattle.draft_changes.specs.Decides.{Logs};
 ghost use Rattle.draft_changes.specs.DraftState.{now, Extends};
 ghost use Rattle.model_invariant.specs.Sound.{IsSound};
-ghost use Rattle.decide_waiting.specs.Sending.{CanSend};
-ghost use Rattle.decide_waiting.specs.Serving.{all_served, served_changes, noted, logged, run_from, run_so_far, turn_state, turn_ids, turn_changes};
-ghost use Rattle.decide_waiting.specs.Places.{all_places_left};
+ghost use Rattle.decide_waiting.specs.Sending.{voucher_sent};
+ghost use Rattle.decide_waiting.specs.Steps.{CanSend};
+ghost use Rattle.decide_waiting.specs.Serving.{all_served, served_changes};
+ghost use Rattle.decide_waiting.specs.Steps.{noted, logged, run_from, run_so_far, state_after};
+ghost use Rattle.decide_waiting.specs.Steps.{all_places_left};
 
 use crate::places::{all_after_one, first_without_place, places_left};
 use crate::sending::send_to;
@@ -81,9 +83,12 @@ fn serve_one<B: Book>(
 ) -> Result<(), AllocError>
     requires can { CanSend (now draft.old) }
     requires left { left.old.items ≡ all_places_left (now draft.old) }
-    ensures done { OnOk result (now draft.new ≡ turn_state id draw draft.old) }
-    ensures noted { OnOk result (ids.new.items ≡ turn_ids id draw draft.old ids.old.items) }
-    ensures logged { OnOk result (draft.new.log.changes ≡ turn_changes id draw draft.old) }
+    ensures done { OnOk result (now draft.new
+        ≡ state_after (now draft.old) (voucher_sent id draw (now draft.old))) }
+    ensures noted { OnOk result (ids.new.items
+        ≡ noted (voucher_sent id draw (now draft.old)) ids.old.items) }
+    ensures logged { OnOk result (draft.new.log.changes ≡ logged draw (now draft.old)
+        (voucher_sent id draw (now draft.old)) draft.old.log.changes) }
     ensures left { OnOk result (left.new.items ≡ all_places_left (now draft.new)) }
     ensures extends { Extends draft.old draft.new }
 {

@@ -153,7 +153,8 @@ module _ (quotas : List Quota) (counts : List (Count Usage)) where
           subst goal (sym (past_end [] (λ (q : Quota). one p q ∷ []) quotas p past)) (rw other rest)
 
   -- what is told of a quota is what came and went of its place
-  pub told : (n : ℕ) (places : List ℕ) (place : ℕ) (quota : Quota) → InOrderFrom (λ r. r.id) n quotas → place < length quotas → get_or quotas place quota ≡ quota → places ≡ rising (map (λ c. c.id) counts) → (come_by (quota_shift_at quota.id (flat_map (quota_shift quotas counts) places)) ≡ came nothing place counts) × (gone_by (quota_shift_at quota.id (flat_map (quota_shift quotas counts) places)) ≡ went nothing place counts)
+  pub told : (n : ℕ) (places : List ℕ) (place : ℕ) (quota : Quota) → InOrderFrom (λ r. r.id) n quotas → place < length quotas → get_or quotas place quota ≡ quota → places ≡ rising (map (λ c. c.id) counts)
+      → (come_by (quota_shift_at quota.id (flat_map (quota_shift quotas counts) places)) ≡ came nothing place counts) × (gone_by (quota_shift_at quota.id (flat_map (quota_shift quotas counts) places)) ≡ went nothing place counts)
   told n places place quota order within is all =
       let found = shift_found n places place quota order within is in
       let known : has place places ≡ has place (map (λ c. c.id) counts) = ap (has place) all ∙ has-rising place (map (λ c. c.id) counts) in
@@ -219,7 +220,9 @@ module _ (log : Log) (at : ℕ) (counts : List (Count Usage)) (uses : List (Coun
   abbrev quotas : List Quota
   quotas = log.base.catalogue.quotas
 
-  pub handed : IsCounted at log counts → AreKept at log uses → AreNoted log.changes noted → AreInOrder (λ r. r.id) log.base.catalogue.quotas → (rows_of log).catalogue ≡ log.base.catalogue → (places ids : List ℕ) (shifts : Shifts) → places ≡ rising (map (λ c. c.id) counts) → ids ≡ rising (noted ++ map (λ c. c.id) uses) → shifts.quotas.items ≡ flat_map (quota_shift log.base.catalogue.quotas counts) places → shifts.vouchers.items ≡ flat_map (voucher_shift (rows_of log) uses) ids → AreShifts log.base (rows_of log) at shifts
+  pub handed : IsCounted at log counts → AreKept at log uses → AreNoted log.changes noted → AreInOrder (λ r. r.id) log.base.catalogue.quotas → (rows_of log).catalogue ≡ log.base.catalogue
+      → (places ids : List ℕ) (shifts : Shifts) → places ≡ rising (map (λ c. c.id) counts) → ids ≡ rising (noted ++ map (λ c. c.id) uses)
+      → shifts.quotas.items ≡ flat_map (quota_shift log.base.catalogue.quotas counts) places → shifts.vouchers.items ≡ flat_map (voucher_shift (rows_of log) uses) ids → AreShifts log.base (rows_of log) at shifts
   handed counted kept are order same places ids shifts places_are ids_are quotas_are vouchers_are =
       record {
         quotas = λ q stands. quota_is q (place_of q.id quotas q (ap (quota_at q.id) (sym same) ∙ stands));

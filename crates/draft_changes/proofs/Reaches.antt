@@ -3,7 +3,6 @@ use Rattle.std.proofs.Common.{◌≡◌, ℕ, zero, suc, ◌+◌, ◌<◌, ◌�
 use Rattle.std.proofs.Math.Seq.{take-length}
 use Rattle.std.proofs.lemmas.Bool.{cases_lt}
 use Rattle.std.proofs.lemmas.List.{take-append-le, take-take, take_all, length-take-le, get_or_past}
-use Rattle.base_sorted.specs.Tables.{AreInOrder}
 use Rattle.model_rows.specs.declared.changes.Change.{Change}
 use Rattle.model_rows.specs.Change.{after_change}
 use Rattle.model_rows.specs.Headroom.{AllHaveHeadroom}
@@ -114,12 +113,13 @@ module _ (book : State) (log : Log) (at : ℕ) (t : Tallied) (bases : List Base)
   uses_within count le = omega (arith, (is.rising count (length log.changes) le (omega arith)).uses, ap (λ (r : Reach). r.uses) reach_last)
 
   -- with one more change
-  pub draft_more : (change : Change) (new : Tallied) (asked : List Base) (more : List ℕ) → more ≡ noted ++ vouchers_by change → IsTallied at (record log { changes = log.changes ++ change ∷ [] }) new → GoesOn t.counts new.counts → GoesOn t.uses new.uses → new.reached ≡ t.reached ++ reach_now t ∷ [] → AreInOrder (λ (b : Base). b.place) asked → AreBases book.lists at book.lists.catalogue.quotas asked → IsDraft book (record log { changes = log.changes ++ change ∷ [] }) at new asked more
-  draft_more change new asked more more_is now counts uses reached order known = record {
+  pub draft_more : (change : Change) (new : Tallied) (asked : List Base) (more : List ℕ) → more ≡ noted ++ vouchers_by change → IsTallied at (record log { changes = log.changes ++ change ∷ [] }) new
+      → GoesOn t.counts new.counts → GoesOn t.uses new.uses → new.reached ≡ t.reached ++ reach_now t ∷ [] → AreBases book.lists at asked
+      → IsDraft book (record log { changes = log.changes ++ change ∷ [] }) at new asked more
+  draft_more change new asked more more_is now counts uses reached known = record {
     each_noted = noted_more log.changes noted change more more_is is.each_noted;
     base = is.base;
     past = is.past;
-    asked_order = order;
     asked = known;
     now = now;
     before = λ count lt. earlier count (omega (arith, lt, one_more));
@@ -161,14 +161,13 @@ module _ (book : State) (log : Log) (at : ℕ) (t : Tallied) (bases : List Base)
   -- gone back
   -- with more that is noted
   pub draft_noted : (more : List ℕ) → AreNoted log.changes more → IsDraft book log at t bases more
-  draft_noted more are = record { base = is.base; past = is.past; asked_order = is.asked_order; asked = is.asked; now = is.now; before = is.before; each_noted = are; rising = is.rising }
+  draft_noted more are = record { base = is.base; past = is.past; asked = is.asked; now = is.now; before = is.before; each_noted = are; rising = is.rising }
 
   pub draft_back : (n : ℕ) → n ≤ length log.changes → IsDraft book (log_at n log) at (tallied_at n t) bases noted
   draft_back n within = record {
     each_noted = noted_front log.changes noted n is.each_noted;
     base = is.base;
     past = is.past;
-    asked_order = is.asked_order;
     asked = is.asked;
     now = tallied_upto n within;
     before = λ count lt. earlier count (omega (arith, lt, taken));

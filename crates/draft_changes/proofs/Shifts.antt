@@ -21,7 +21,7 @@ use Rattle.model_rows.specs.Conditions.{is_paid, is_pending, is_in_force, blocks
 use Rattle.model_rows.specs.Lists.{Lists, voucher_at, order_at, position_at, checkin_at}
 use Rattle.model_rows.specs.Kept.{IsKept}
 use Rattle.model_rows.specs.Change.{after_change}
-use Rattle.model_rows.specs.Headroom.{held_in}
+use Rattle.model_rows.specs.Asked.{held_in}
 use Rattle.model_rows.specs.Usage.{usage_of, stands_as, cart_counts, blocked_by, blocks_if, is_covered_by, waits_for, is_released, redeemed}
 use Rattle.model_rows.proofs.EachRow.{key-row_at}
 use Rattle.model_rows.proofs.Exits.{exit_shift}

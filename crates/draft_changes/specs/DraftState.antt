@@ -1,9 +1,9 @@
 -- A draft: a box office in a book, and changes that aren't applied yet. A mark is a place among them. Its vouchers have headroom after each change.
-use Rattle.std.specs.Prelude.{◌≡◌, ℕ, ◌≤◌, ◌<◌, ◌+◌, List, length, take}
-use Rattle.base_sorted.specs.Tables.{AreInOrder}
+use Rattle.std.specs.Prelude.{◌≡◌, ℕ, ◌≤◌, ◌<◌, ◌+◌, List, length, take, Result, OnOk, OnErr}
 use Rattle.model_rows.specs.declared.rows.NextIds.{NextIds}
 use Rattle.model_rows.specs.declared.changes.Change.{Change}
 use Rattle.model_rows.specs.declared.rows.Usage.{Usage}
+use Rattle.model_rows.specs.Change.{changed}
 use Rattle.model_rows.specs.Lists.{State}
 use Rattle.model_rows.specs.Headroom.{AllHaveHeadroom}
 use Rattle.model_rows.specs.Usage.{usage_of}
@@ -81,8 +81,7 @@ pub record IsBelow (reach other : Reach) : Type 0 where
 pub record IsDraft (book : State) (log : Log) (at : ℕ) (tallied : Tallied) (bases : List Base) (noted : List ℕ) : Type 0 where
   pub base : log.base ≡ book.lists
   pub past : book.moment ≤ at
-  pub asked_order : AreInOrder (λ b. b.place) bases
-  pub asked : AreBases book.lists at book.lists.catalogue.quotas bases
+  pub asked : AreBases book.lists at bases
   pub now : IsTallied at log tallied
   pub before : (count : ℕ) → count < length log.changes → IsTallied at (log_at count log) (tallied_at count tallied)
   pub each_noted : AreNoted log.changes noted
@@ -97,3 +96,16 @@ pub record Extends (old new : DraftState) : Type 0 where
   pub base : new.log.base ≡ old.log.base
   pub moment : new.moment ≡ old.moment
   pub marks : (mark : MarkState) → IsMarkOf old mark → IsMarkOf new mark × (back mark new ≡ back mark old)
+
+-- what comes of one more change: it is logged, and done; where there is no memory for it the draft is as it was
+pub record Makes {A E : Type 0} (change : Change) (old new : DraftState) (result : Result A E) : Type 0 where
+  pub ok : OnOk result (now new ≡ changed change (now old))
+  pub extends : Extends old new
+  pub err : OnErr result (new ≡ old)
+  pub log : OnOk result (new ≡ with_change change old)
+
+-- the new draft is the old one, but for its next ids, which are these
+pub record HasNextIds (next : NextIds) (old new : DraftState) : Type 0 where
+  pub now : now new ≡ record (now old) { next = next }
+  pub extends : Extends old new
+  pub log : new.log ≡ old.log

@@ -1,10 +1,8 @@
 //! How much the book uses of the quotas that were asked for.
 
-ghost use Rattle.std.specs.Prelude.{◌≡◌, ◌≤◌, ◌<◌, length, slice_index_or, Some};
-ghost use Rattle.base_sorted.specs.Tables.{AreInOrder};
+ghost use Rattle.std.specs.Prelude.{◌≡◌, ◌≤◌, Some};
 ghost use Rattle.model_catalogue.specs.CatalogueLists.{quota_at};
-ghost use Rattle.model_catalogue.specs.declared.rows.Quota.{Quota};
-ghost use Rattle.draft_changes.specs.Used.{used, AreBases};
+ghost use Rattle.draft_changes.specs.Used.{used, most_used, AreBases};
 
 use base_sorted::{Row, place_of};
 use base_values::Moment;
@@ -34,24 +32,20 @@ impl Row for Base {
 pub fn ask_bases<B: Book>(
     book: &B,
     at: Moment,
-    quotas: &[Quota],
     wanted: bool,
     counts: &Tally<Usage>,
     mark: usize,
     bases: &mut Vec<Base>,
 )
-    requires sold { quotas.now ≡ (B.state book.now).lists.catalogue.quotas }
-    requires order { AreInOrder (λ r. r.place) bases.old.items }
-    requires known { AreBases (B.state book.now).lists at quotas.now bases.old.items }
+    requires known { AreBases (B.state book.now).lists at bases.old.items }
     requires past { (B.state book.now).moment ≤ at }
-    ensures order { AreInOrder (λ r. r.place) bases.new.items }
-    ensures known { AreBases (B.state book.now).lists at quotas.now bases.new.items }
+    ensures { AreBases (B.state book.now).lists at bases.new.items }
 {
     if !wanted {
         return;
     }
     for i in mark..counts.len() {
-        let _ = ask_base(book, at, quotas, counts.key(i), bases);
+        let _ = ask_base(book, at, counts.key(i), bases);
     }
 }
 
@@ -59,62 +53,36 @@ pub fn ask_bases<B: Book>(
 fn ask_base<B: Book>(
     book: &B,
     at: Moment,
-    quotas: &[Quota],
     place: u64,
     bases: &mut Vec<Base>,
 ) -> Result<(), AllocError>
-    requires sold { quotas.now ≡ (B.state book.now).lists.catalogue.quotas }
-    requires order { AreInOrder (λ r. r.place) bases.old.items }
-    requires known { AreBases (B.state book.now).lists at quotas.now bases.old.items }
+    requires known { AreBases (B.state book.now).lists at bases.old.items }
     requires past { (B.state book.now).moment ≤ at }
-    ensures order { AreInOrder (λ r. r.place) bases.new.items }
-    ensures known { AreBases (B.state book.now).lists at quotas.now bases.new.items }
+    ensures { AreBases (B.state book.now).lists at bases.new.items }
 {
     match place_of(bases, place) {
         Ok(_) => Ok(()),
         Err(gap) => {
+            let catalogue = book.catalogue();
+            catalogue.known();
+            let quotas = catalogue.quotas();
             let index = place as usize;
             if quotas.len() <= index {
                 return Ok(());
             }
-            book.catalogue().known();
             let total = used_in_book(book, &quotas[index], at);
             Ok(bases.insert(gap, Base { place, total })?)
         }
     }
 }
 
-/// How much the book uses of the quota at a place: what is known, or else its answer.
-pub fn base_of<B: Book>(
-    book: &B,
-    at: Moment,
-    quotas: &[Quota],
-    place: usize,
-    bases: &[Base],
-) -> u128
-    requires place { place < length quotas.now }
-    requires sold { quotas.now ≡ (B.state book.now).lists.catalogue.quotas }
-    requires order { AreInOrder (λ r. r.place) bases.now }
-    requires known { AreBases (B.state book.now).lists at quotas.now bases.now }
-    requires past { (B.state book.now).moment ≤ at }
-    ensures value { (d : Quota) → result
-        ≡ used (B.state book.now).lists at (slice_index_or quotas.now place d) }
-    ensures few { result ≤ 92233720368547758080 }
-{
-    book.catalogue().known();
-    match place_of(bases, place as u64) {
-        Ok(found) => bases[found].total,
-        Err(_) => used_in_book(book, &quotas[place], at),
-    }
-}
-
-// All that is used of a quota that stands in the book.
+/// All that is used of a quota that stands in the book.
 #[tactic(auto, unfolding(crate::specs::Used::used))]
-fn used_in_book<B: Book>(book: &B, quota: &Quota, at: Moment) -> u128
+pub fn used_in_book<B: Book>(book: &B, quota: &Quota, at: Moment) -> u128
     requires moment { (B.state book.now).moment ≤ at }
     requires stands { quota_at quota.now.id (B.state book.now).lists.catalogue ≡ Some quota.now }
     ensures value { result ≡ used (B.state book.now).lists at quota.now }
-    ensures few { result ≤ 92233720368547758080 }
+    ensures few { result ≤ most_used }
 {
     usage_of(book, quota, at).total()
 }

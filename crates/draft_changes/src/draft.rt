@@ -7,7 +7,7 @@ ghost use Rattle.model_rows.specs.Conditions.{is_live_cart};
 ghost use Rattle.base_sorted.specs.Tables.{AreInOrder};
 ghost use Rattle.model_rows.specs.Over.{first_over};
 ghost use Rattle.model_rows.specs.Change.{changed};
-ghost use Rattle.draft_changes.specs.DraftState.{DraftState, MarkState, IsMarkOf, Extends, now, back, with_change};
+ghost use Rattle.draft_changes.specs.DraftState.{DraftState, MarkState, IsMarkOf, Extends, Makes, now, back, with_change};
 ghost use Rattle.draft_deltas.specs.Logs.{rows_of};
 ghost use Rattle.draft_changes.specs.CanCome.{CanCome};
 ghost use Rattle.book_tally.specs.Shifts.{AreShifts};
@@ -17,7 +17,7 @@ ghost use Rattle.model_catalogue.specs.CatalogueLists.{quota_at};
 
 use crate::bases::{Base, ask_bases};
 use crate::finish::{note_voucher, shifts_of};
-use crate::over::{first_over, used_now};
+use crate::over::Weighing;
 use base_values::Moment;
 use book_tally::Drafted;
 use book_usage::{Book, LookUps, usage_of};
@@ -162,14 +162,7 @@ impl<'a, B: Book> Draft<'a, B> {
         ensures { result ≡ total (usage_of (now self.now).lists (now self.now).moment quota.now) }
     {
         self.overlay.known();
-        used_now(
-            self.book,
-            &self.overlay,
-            self.moment,
-            quota,
-            &self.bases,
-            self.tallies.counts(),
-        )
+        self.weighing(&self.mark(), &[]).used(quota)
     }
 
     /// How many entries wait for a place of a quota that stands, in a draft that has changed no waiting entry.
@@ -200,10 +193,7 @@ impl<'a, B: Book> Draft<'a, B> {
     /// `Err` where there is no memory or 2^32 changes stand; the draft is then as it was.
     pub fn put_voucher(&mut self, alloc: Global, row: Voucher) -> Result<(), AllocError>
         requires { HasHeadroom (now self.old).moment (now self.old).lists row }
-        ensures ok { OnOk result (now self.new ≡ changed (Change.PutVoucher row) (now self.old)) }
-        ensures extends { Extends self.old self.new }
-        ensures err { OnErr result (self.new ≡ self.old) }
-        ensures log { OnOk result (self.new ≡ with_change (Change.PutVoucher row) self.old) }
+        ensures { Makes (Change.PutVoucher row) self.old self.new result }
     {
         self.known();
         self.change(alloc, Change::PutVoucher(row))
@@ -212,10 +202,7 @@ impl<'a, B: Book> Draft<'a, B> {
     /// Removes the voucher of an id.
     /// `Err` where there is no memory or 2^32 changes stand; the draft is then as it was.
     pub fn drop_voucher(&mut self, alloc: Global, id: u64) -> Result<(), AllocError>
-        ensures ok { OnOk result (now self.new ≡ changed (Change.DropVoucher id) (now self.old)) }
-        ensures extends { Extends self.old self.new }
-        ensures err { OnErr result (self.new ≡ self.old) }
-        ensures log { OnOk result (self.new ≡ with_change (Change.DropVoucher id) self.old) }
+        ensures { Makes (Change.DropVoucher id) self.old self.new result }
     {
         self.known();
         self.change(alloc, Change::DropVoucher(id))
@@ -227,10 +214,7 @@ impl<'a, B: Book> Draft<'a, B> {
     pub fn put_cart(&mut self, alloc: Global, row: CartPos) -> Result<(), AllocError>
         requires { (not (is_live_cart (now self.old).moment row)
             || has_use (now self.old).moment (now self.old).lists row.voucher) ≡ true }
-        ensures ok { OnOk result (now self.new ≡ changed (Change.PutCart row) (now self.old)) }
-        ensures extends { Extends self.old self.new }
-        ensures err { OnErr result (self.new ≡ self.old) }
-        ensures log { OnOk result (self.new ≡ with_change (Change.PutCart row) self.old) }
+        ensures { Makes (Change.PutCart row) self.old self.new result }
     {
         self.known();
         self.change(alloc, Change::PutCart(row))
@@ -239,10 +223,7 @@ impl<'a, B: Book> Draft<'a, B> {
     /// Removes the cart position of an id.
     /// `Err` where there is no memory or 2^32 changes stand; the draft is then as it was.
     pub fn drop_cart(&mut self, alloc: Global, id: u64) -> Result<(), AllocError>
-        ensures ok { OnOk result (now self.new ≡ changed (Change.DropCart id) (now self.old)) }
-        ensures extends { Extends self.old self.new }
-        ensures err { OnErr result (self.new ≡ self.old) }
-        ensures log { OnOk result (self.new ≡ with_change (Change.DropCart id) self.old) }
+        ensures { Makes (Change.DropCart id) self.old self.new result }
     {
         self.known();
         self.change(alloc, Change::DropCart(id))
@@ -252,10 +233,7 @@ impl<'a, B: Book> Draft<'a, B> {
     /// `Err` where there is no memory or 2^32 changes stand; the draft is then as it was.
     #[tactic(auto, using(crate::proofs::CanCome::can_put_waiting))]
     pub fn put_waiting(&mut self, alloc: Global, row: Waiting) -> Result<(), AllocError>
-        ensures ok { OnOk result (now self.new ≡ changed (Change.PutWaiting row) (now self.old)) }
-        ensures extends { Extends self.old self.new }
-        ensures err { OnErr result (self.new ≡ self.old) }
-        ensures log { OnOk result (self.new ≡ with_change (Change.PutWaiting row) self.old) }
+        ensures { Makes (Change.PutWaiting row) self.old self.new result }
     {
         self.known();
         self.change(alloc, Change::PutWaiting(row))
@@ -265,10 +243,7 @@ impl<'a, B: Book> Draft<'a, B> {
     /// `Err` where there is no memory or 2^32 changes stand; the draft is then as it was.
     #[tactic(auto, using(crate::proofs::CanCome::can_drop_waiting))]
     pub fn drop_waiting(&mut self, alloc: Global, id: u64) -> Result<(), AllocError>
-        ensures ok { OnOk result (now self.new ≡ changed (Change.DropWaiting id) (now self.old)) }
-        ensures extends { Extends self.old self.new }
-        ensures err { OnErr result (self.new ≡ self.old) }
-        ensures log { OnOk result (self.new ≡ with_change (Change.DropWaiting id) self.old) }
+        ensures { Makes (Change.DropWaiting id) self.old self.new result }
     {
         self.known();
         self.change(alloc, Change::DropWaiting(id))
@@ -278,11 +253,7 @@ impl<'a, B: Book> Draft<'a, B> {
     /// `Err` where there is no memory or 2^32 changes stand; the draft is then as it was.
     #[tactic(auto, using(crate::proofs::CanCome::can_put_checkin_list))]
     pub fn put_checkin_list(&mut self, alloc: Global, row: CheckinList) -> Result<(), AllocError>
-        ensures ok { OnOk result
-            (now self.new ≡ changed (Change.PutCheckinList row) (now self.old)) }
-        ensures extends { Extends self.old self.new }
-        ensures err { OnErr result (self.new ≡ self.old) }
-        ensures log { OnOk result (self.new ≡ with_change (Change.PutCheckinList row) self.old) }
+        ensures { Makes (Change.PutCheckinList row) self.old self.new result }
     {
         self.known();
         self.change(alloc, Change::PutCheckinList(row))
@@ -293,10 +264,7 @@ impl<'a, B: Book> Draft<'a, B> {
     #[tactic(auto, using(crate::proofs::CanCome::can_put_checkin))]
     pub fn put_checkin(&mut self, alloc: Global, row: Checkin) -> Result<(), AllocError>
         requires new { checkin_at row.id (now self.old).lists ≡ None }
-        ensures ok { OnOk result (now self.new ≡ changed (Change.PutCheckin row) (now self.old)) }
-        ensures extends { Extends self.old self.new }
-        ensures err { OnErr result (self.new ≡ self.old) }
-        ensures log { OnOk result (self.new ≡ with_change (Change.PutCheckin row) self.old) }
+        ensures { Makes (Change.PutCheckin row) self.old self.new result }
     {
         self.known();
         self.change(alloc, Change::PutCheckin(row))
@@ -309,10 +277,7 @@ impl<'a, B: Book> Draft<'a, B> {
     pub fn put_order(&mut self, alloc: Global, row: Order) -> Result<(), AllocError>
         requires { AllHaveHeadroom (now self.old).moment
             (changed (Change.PutOrder row) (now self.old)).lists }
-        ensures ok { OnOk result (now self.new ≡ changed (Change.PutOrder row) (now self.old)) }
-        ensures extends { Extends self.old self.new }
-        ensures err { OnErr result (self.new ≡ self.old) }
-        ensures log { OnOk result (self.new ≡ with_change (Change.PutOrder row) self.old) }
+        ensures { Makes (Change.PutOrder row) self.old self.new result }
     {
         self.known();
         self.change(alloc, Change::PutOrder(row))
@@ -326,10 +291,7 @@ impl<'a, B: Book> Draft<'a, B> {
         requires new { position_at row.id (now self.old).lists ≡ None }
         requires headroom { AllHaveHeadroom (now self.old).moment
             (changed (Change.PutPosition row) (now self.old)).lists }
-        ensures ok { OnOk result (now self.new ≡ changed (Change.PutPosition row) (now self.old)) }
-        ensures extends { Extends self.old self.new }
-        ensures err { OnErr result (self.new ≡ self.old) }
-        ensures log { OnOk result (self.new ≡ with_change (Change.PutPosition row) self.old) }
+        ensures { Makes (Change.PutPosition row) self.old self.new result }
     {
         self.known();
         self.change(alloc, Change::PutPosition(row))
@@ -355,12 +317,12 @@ impl<'a, B: Book> Draft<'a, B> {
             return Err(AllocError);
         }
         // What a draft's only change touches is asked for once, or not at all.
+        let counts = self.tallies.counts();
         ask_bases(
             self.book,
             self.moment,
-            catalogue.quotas(),
             self.again,
-            self.tallies.counts(),
+            counts,
             mark,
             &mut self.bases,
         );
@@ -386,16 +348,28 @@ impl<'a, B: Book> Draft<'a, B> {
         ensures { result ≡ first_over (now (back mark.now self.now)).lists (now self.now).lists
             (now self.now).moment own.now }
     {
-        first_over(
-            self.book,
-            &self.overlay,
-            self.moment,
+        self.weighing(mark, own).first_over()
+    }
+
+    // What it uses of each quota, now and at the mark, for a request with these rows of its own.
+    fn weighing<'w>(&'w self, mark: &Mark, own: &'w [Own]) -> Weighing<'w, 'a, B>
+        requires { IsMarkOf self.now mark.now }
+        ensures overlay { result.overlay.now ≡ self.now.log }
+        ensures at { result.at ≡ self.now.moment }
+        ensures own { result.own.now ≡ own.now }
+        ensures count { result.count ≡ mark.now.count }
+    {
+        Weighing {
+            book: self.book,
+            overlay: &self.overlay,
+            at: self.moment,
             own,
-            &self.bases,
-            mark.count,
-            self.tallies.counts(),
-            self.tallies.reach_at(mark.count).counts,
-        )
+            quotas: self.book.catalogue().quotas(),
+            bases: &self.bases,
+            counts: self.tallies.counts(),
+            count: mark.count,
+            mark: self.tallies.reach_at(mark.count).counts,
+        }
     }
 
     /// Ends an attempt that began at the mark: what was made stays, and where it was refused all since then is undone.

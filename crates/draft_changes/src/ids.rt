@@ -2,7 +2,7 @@
 
 ghost use Rattle.std.specs.Prelude.{◌≡◌, ◌≤◌, ◌<◌, ◌+◌};
 ghost use Rattle.model_rows.specs.Full.{takes_cart, takes_voucher, takes_order, takes_positions, takes_waiting, takes_checkin_list, takes_checkin};
-ghost use Rattle.draft_changes.specs.DraftState.{Extends, now};
+ghost use Rattle.draft_changes.specs.DraftState.{HasNextIds, now};
 
 use crate::draft::Draft;
 use base_values::codes::LAST_ORDER;
@@ -28,11 +28,8 @@ impl<'a, B: Book> Draft<'a, B> {
     /// Counts the id of a cart position as used.
     pub fn use_cart_id(&mut self)
         requires { (now self.old).next.cart < 9007199254740992 }
-        ensures now { now self.new ≡ record (now self.old) {
-          next = record (now self.old).next { cart = (now self.old).next.cart + 1 };
-        } }
-        ensures extends { Extends self.old self.new }
-        ensures log { self.new.log ≡ self.old.log }
+        ensures { HasNextIds (record self.old.next { cart = self.old.next.cart + 1 })
+            self.old self.new }
     {
         self.next.cart += 1;
     }
@@ -56,11 +53,8 @@ impl<'a, B: Book> Draft<'a, B> {
     /// Counts the id of an order as used.
     pub fn use_order_id(&mut self)
         requires { (now self.old).next.order < 9007199254740992 }
-        ensures now { now self.new ≡ record (now self.old) {
-          next = record (now self.old).next { order = (now self.old).next.order + 1 };
-        } }
-        ensures extends { Extends self.old self.new }
-        ensures log { self.new.log ≡ self.old.log }
+        ensures { HasNextIds (record self.old.next { order = self.old.next.order + 1 })
+            self.old self.new }
     {
         self.next.order += 1;
     }
@@ -84,13 +78,8 @@ impl<'a, B: Book> Draft<'a, B> {
     /// Counts the ids of so many order positions as used.
     pub fn use_position_ids(&mut self, count: usize)
         requires { (now self.old).next.position + count ≤ 9007199254740992 }
-        ensures now { now self.new ≡ record (now self.old) {
-          next = record (now self.old).next {
-            position = (now self.old).next.position + count;
-          };
-        } }
-        ensures extends { Extends self.old self.new }
-        ensures log { self.new.log ≡ self.old.log }
+        ensures { HasNextIds (record self.old.next { position = self.old.next.position + count })
+            self.old self.new }
     {
         self.next.position += count as u64;
     }
@@ -113,11 +102,8 @@ impl<'a, B: Book> Draft<'a, B> {
     /// Counts the id of a voucher as used.
     pub fn use_voucher_id(&mut self)
         requires { (now self.old).next.voucher < 9007199254740992 }
-        ensures now { now self.new ≡ record (now self.old) {
-          next = record (now self.old).next { voucher = (now self.old).next.voucher + 1 };
-        } }
-        ensures extends { Extends self.old self.new }
-        ensures log { self.new.log ≡ self.old.log }
+        ensures { HasNextIds (record self.old.next { voucher = self.old.next.voucher + 1 })
+            self.old self.new }
     {
         self.next.voucher += 1;
     }
@@ -142,11 +128,8 @@ impl<'a, B: Book> Draft<'a, B> {
     /// Counts the id of a waiting entry as used.
     pub fn use_waiting_id(&mut self)
         requires { (now self.old).next.waiting < 9007199254740992 }
-        ensures now { now self.new ≡ record (now self.old) {
-          next = record (now self.old).next { waiting = (now self.old).next.waiting + 1 };
-        } }
-        ensures extends { Extends self.old self.new }
-        ensures log { self.new.log ≡ self.old.log }
+        ensures { HasNextIds (record self.old.next { waiting = self.old.next.waiting + 1 })
+            self.old self.new }
     {
         self.next.waiting += 1;
     }
@@ -170,11 +153,8 @@ impl<'a, B: Book> Draft<'a, B> {
     /// Counts the id of a check-in list as used.
     pub fn use_checkin_list_id(&mut self)
         requires { (now self.old).next.list < 9007199254740992 }
-        ensures now { now self.new ≡ record (now self.old) {
-          next = record (now self.old).next { list = (now self.old).next.list + 1 };
-        } }
-        ensures extends { Extends self.old self.new }
-        ensures log { self.new.log ≡ self.old.log }
+        ensures { HasNextIds (record self.old.next { list = self.old.next.list + 1 })
+            self.old self.new }
     {
         self.next.list += 1;
     }
@@ -198,11 +178,8 @@ impl<'a, B: Book> Draft<'a, B> {
     /// Counts the id of a check-in as used.
     pub fn use_checkin_id(&mut self)
         requires { (now self.old).next.checkin < 9007199254740992 }
-        ensures now { now self.new ≡ record (now self.old) {
-          next = record (now self.old).next { checkin = (now self.old).next.checkin + 1 };
-        } }
-        ensures extends { Extends self.old self.new }
-        ensures log { self.new.log ≡ self.old.log }
+        ensures { HasNextIds (record self.old.next { checkin = self.old.next.checkin + 1 })
+            self.old self.new }
     {
         self.next.checkin += 1;
     }

@@ -13,7 +13,8 @@ use Rattle.base_sorted.proofs.Places.{at_least, row_at_gap}
 use Rattle.base_sorted.proofs.RisingLemmas.{has-rising}
 use Rattle.model_catalogue.specs.declared.rows.Quota.{Quota}
 use Rattle.model_catalogue.specs.declared.rows.Product.{Product}
-use Rattle.model_catalogue.specs.CatalogueLists.{CatalogueLists, quota_at, quotas_of}
+use Rattle.model_catalogue.specs.CatalogueLists.{CatalogueLists, quota_at}
+use Rattle.model_catalogue.specs.Kept.{quotas_of}
 use Rattle.model_catalogue.specs.Member.{is_in}
 use Rattle.model_rows.proofs.Found.{each_found}
 use Rattle.model_rows.specs.declared.rows.Voucher.{Voucher}

@@ -19,7 +19,7 @@ use Rattle.model_rows.specs.Conditions.{is_paid, is_pending, is_in_force}
 use Rattle.model_rows.specs.Change.{after_change}
 use Rattle.model_rows.specs.Lists.{Lists, voucher_at, cart_at, order_at, position_at, waiting_at}
 use Rattle.model_rows.specs.Usage.{redeemed, stands_as, blocks_if, is_covered_by, is_released}
-use Rattle.model_rows.specs.Headroom.{held_in}
+use Rattle.model_rows.specs.Asked.{held_in}
 use Rattle.draft_overlay.specs.declared.purchases.Purchase.{Purchase}
 use Rattle.book_tally.specs.Amounts.{nothing}
 use Rattle.book_usage.specs.OfOrder.{count_ordered, if_stands}

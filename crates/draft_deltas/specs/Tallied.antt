@@ -3,7 +3,7 @@ use Rattle.std.specs.Prelude.{◌≡◌, ℕ, List, [], ◌∷◌, ◌++◌, len
 use Rattle.model_catalogue.specs.declared.rows.Quota.{Quota}
 use Rattle.model_rows.specs.declared.changes.Change.{Change}
 use Rattle.model_rows.specs.declared.rows.Usage.{Usage}
-use Rattle.model_catalogue.specs.CatalogueLists.{CatalogueTables}
+use Rattle.model_catalogue.specs.Kept.{CatalogueTables}
 use Rattle.model_rows.specs.Lists.{Lists}
 use Rattle.model_rows.specs.Change.{after_change}
 use Rattle.draft_overlay.specs.Logs.{Log, rows_of}

@@ -7,7 +7,7 @@ ghost use Rattle.model_catalogue.specs.declared.rows.Quota.{Quota};
 ghost use Rattle.model_catalogue.specs.Member.{is_in};
 ghost use Rattle.model_rows.specs.declared.changes.Change.TheVariants.{PutOrder};
 ghost use Rattle.model_rows.specs.Change.{after_change};
-ghost use Rattle.model_rows.specs.Headroom.{held_in};
+ghost use Rattle.model_rows.specs.Asked.{held_in};
 ghost use Rattle.model_rows.specs.Lists.{order_at};
 ghost use Rattle.model_rows.specs.Usage.{redeemed, is_covered_by, blocks_if};
 ghost use Rattle.draft_overlay.specs.Logs.{rows_of, IsSale};

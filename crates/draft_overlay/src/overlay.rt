@@ -11,7 +11,8 @@ ghost use Rattle.draft_overlay.specs.Coded.{IsLeast, lesser, IsPutBelow, IsUncha
 ghost use Rattle.book_log.specs.Places.{touches, touches_table, last_place};
 ghost use Rattle.model_rows.specs.Kept.{IsKept};
 ghost use Rattle.base_sorted.specs.Tables.{sum_at};
-ghost use Rattle.model_rows.specs.Headroom.{held, held_in};
+ghost use Rattle.model_rows.specs.Headroom.{held};
+ghost use Rattle.model_rows.specs.Asked.{held_in};
 ghost use Rattle.draft_overlay.specs.Logs.{Log, rows_of, rows_at, log_with, IsSale, AreSales};
 ghost use Rattle.model_rows.specs.Conditions.{is_in_force, names};
 ghost use Rattle.book_usage.specs.OfOrder.{count_ordered};

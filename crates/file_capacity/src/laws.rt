@@ -6,7 +6,7 @@ ghost use Rattle.model_catalogue.specs.declared.rows.Quota.{Quota};
 ghost use Rattle.model_catalogue.specs.Limits.{most_rows};
 ghost use Rattle.model_rows.specs.Lists.{State};
 ghost use Rattle.model_rows.specs.Usage.{redeemed, spent, usage_of};
-ghost use Rattle.office_runs.specs.Runs.{InEachSoundRun};
+ghost use Rattle.office_runs.specs.Promises.{InEachSoundRun};
 ghost use Rattle.model_invariant.specs.Sound.{IsSound};
 ghost use Rattle.file_capacity.specs.Bounded.{IsBounded};
 ghost use Rattle.file_capacity.specs.Taken.{TakesItsChanges};

@@ -13,10 +13,6 @@ pub record KeepsFirst (file : File) : Type 0 where
   pub limits : Keeps Limits file
   pub ids : Keeps Ids file
 
--- the shop's row, the limits and the ids are as their rules say
-abbrev pub KeepsFirstThree : File → Type 0
-KeepsFirstThree file = Keeps Shop file × Keeps Limits file × Keeps Ids file
-
 -- the file of a shop whose office is a book's, with its counters
 abbrev pub file_with : State → List QuotaCount → List VoucherCount → List ℕ → List ℕ → File
 file_with state used redeemed organizer event = record { organizer = organizer; event = event; state = state; used = used; redeemed = redeemed }

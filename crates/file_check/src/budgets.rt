@@ -1,9 +1,9 @@
 //! The test of budgets.
 
 ghost use Rattle.std.specs.Prelude.{◌↔◌, IsTrue};
+ghost use Rattle.std.specs.List.{AllByRecursion};
 ghost use Rattle.model_rows.specs.Budgets.{AllWithinBudget};
 ghost use Rattle.file_check.specs.Spent.{StaysWithin};
-ghost use Rattle.file_check.specs.Tested.{AllStayWithin};
 
 use book_usage::Book;
 use model_rows::Voucher;
@@ -21,7 +21,8 @@ fn stays_within<B: Book>(book: &B, row: &Voucher) -> bool
 
 // Whether it is so of each voucher.
 fn all_stay_within<B: Book>(book: &B) -> bool
-    ensures { IsTrue result ↔ AllStayWithin (B.state book.now).lists }
+    ensures { let lists = (B.state book.now).lists in
+        IsTrue result ↔ AllByRecursion (StaysWithin lists) lists.vouchers }
 {
     let vouchers = book.vouchers();
     for row in vouchers {

@@ -5,7 +5,7 @@ ghost use Rattle.std.specs.List.{ends_with, AllByRecursion};
 ghost use Rattle.model_rows.specs.Named.{AreUnlike};
 ghost use Rattle.model_invariant.specs.OwnCodes.{code_ending, has_own_code, HaveCodes};
 ghost use Rattle.model_invariant.specs.Secrets.{has_own_secret, AllHaveOwnSecrets};
-ghost use Rattle.file_check.specs.Tested.{has_new_code, AllHaveNewCodes};
+ghost use Rattle.file_check.specs.Tested.{has_new_code};
 ghost use Rattle.model_rules.specs.Tests.{TellsWhether};
 
 use base_values::Text;
@@ -56,7 +56,8 @@ fn has_new_code<B: Book>(book: &B, row: &Voucher) -> bool
 
 // Whether it is so of each voucher.
 fn all_have_new_codes<B: Book>(book: &B) -> bool
-    ensures { IsTrue result ↔ AllHaveNewCodes (B.state book.now).lists.vouchers }
+    ensures { let vouchers = (B.state book.now).lists.vouchers in
+        IsTrue result ↔ AllByRecursion (λ v. has_new_code vouchers v ≡ true) vouchers }
 {
     book.vouchers().iter().all(|row| has_new_code(book, row))
 }

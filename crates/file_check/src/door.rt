@@ -1,8 +1,8 @@
 //! The tests of check-in lists and check-ins.
 
-ghost use Rattle.std.specs.Prelude.{◌↔◌, IsTrue};
-ghost use Rattle.model_invariant.specs.Checkins.{HasItems, IsDoorOf};
-ghost use Rattle.file_check.specs.Tested.{ItemsStand, ListsHaveItems, CheckinStands, CheckinsStand};
+ghost use Rattle.std.specs.Prelude.{◌≡◌, ◌↔◌, IsTrue, true};
+ghost use Rattle.std.specs.List.{AllByRecursion};
+ghost use Rattle.model_invariant.specs.Checkins.{has_item, HasItems, IsCheckedIn, IsDoorOf};
 ghost use Rattle.model_rules.specs.Tests.{TellsWhether};
 
 use crate::are_once;
@@ -13,7 +13,8 @@ use std::alloc::{AllocError, Global};
 
 // Whether the item of each id stands.
 fn are_items(catalogue: &Catalogue, ids: &[u64]) -> bool
-    ensures { IsTrue result ↔ ItemsStand catalogue.now.lists.items ids.now }
+    ensures { let items = catalogue.now.lists.items in
+        IsTrue result ↔ AllByRecursion (λ id. has_item items id ≡ true) ids.now }
 {
     ids.iter().all(|id| catalogue.item(*id).is_some())
 }
@@ -27,7 +28,8 @@ fn has_items(catalogue: &Catalogue, row: &CheckinList) -> bool
 
 // Whether it is so of each list.
 fn all_have_items<B: Book>(book: &B) -> bool
-    ensures { IsTrue result ↔ ListsHaveItems (B.state book.now).lists }
+    ensures { let lists = (B.state book.now).lists in
+        IsTrue result ↔ AllByRecursion (HasItems lists.catalogue.items) lists.checkin_lists }
 {
     let catalogue = book.catalogue();
     let lists = book.checkin_lists();
@@ -41,14 +43,16 @@ fn all_have_items<B: Book>(book: &B) -> bool
 
 // Whether the list and the order position of a check-in stand.
 fn is_checked_in<B: Book>(book: &B, row: &Checkin) -> bool
-    ensures { IsTrue result ↔ CheckinStands (B.state book.now).lists row.now }
+    ensures { let lists = (B.state book.now).lists in
+        IsTrue result ↔ IsCheckedIn lists.checkin_lists lists.positions row.now }
 {
     book.checkin_list(row.list).is_some() && book.position(row.position).is_some()
 }
 
 // Whether it is so of each check-in.
 fn all_checked_in<B: Book>(book: &B) -> bool
-    ensures { IsTrue result ↔ CheckinsStand (B.state book.now).lists }
+    ensures { let lists = (B.state book.now).lists in IsTrue result
+        ↔ AllByRecursion (IsCheckedIn lists.checkin_lists lists.positions) lists.checkins }
 {
     let checkins = book.checkins();
     for row in checkins {

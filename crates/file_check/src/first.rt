@@ -4,7 +4,7 @@ ghost use Rattle.std.specs.Prelude.{◌≤◌, IfNone, IfSome};
 ghost use Rattle.model_rules.specs.Numbers.{number};
 ghost use Rattle.model_rules.specs.Rules.{IsLeastBroken};
 ghost use Rattle.model_rules.specs.Told.{file_of};
-ghost use Rattle.file_check.specs.Last.{KeepsFirstThree};
+ghost use Rattle.file_check.specs.Last.{KeepsFirst};
 
 use crate::head::keeps_head;
 use crate::ids::keeps_ids;
@@ -13,7 +13,7 @@ use model_rules::{FileRows, Rule};
 
 /// The least rule that is broken of the first three: 1 the shop's row, 2 limits, 3 ids. None where the rows keep these three.
 pub fn first_broken(rows: &FileRows) -> Option<Rule>
-    ensures kept { IfNone result (KeepsFirstThree (file_of rows.now)) }
+    ensures kept { IfNone result (KeepsFirst (file_of rows.now)) }
     ensures broken { IfSome result (λ rule. IsLeastBroken rule (file_of rows.now)) }
     ensures first { IfSome result (λ rule. number rule ≤ 3) }
 {

@@ -1,9 +1,10 @@
 //! The test of the nonces of check-ins.
 
-ghost use Rattle.std.specs.Prelude.{◌≡◌, IfOk, find};
+ghost use Rattle.std.specs.Prelude.{◌≡◌, IfOk, find, true};
+ghost use Rattle.std.specs.List.{AllByRecursion};
 ghost use Rattle.std.specs.Option.{option_copied};
 ghost use Rattle.model_invariant.specs.Checkins.{same_nonce, repeats, AreOnce};
-ghost use Rattle.file_check.specs.Tested.{is_new, AllAreNew};
+ghost use Rattle.file_check.specs.Tested.{is_new};
 ghost use Rattle.model_rules.specs.Tests.{TellsWhether};
 
 use crate::keys::have_own_keys;
@@ -57,7 +58,8 @@ fn is_new<B: Book>(alloc: Global, book: &B, row: &Checkin) -> Result<bool, Alloc
 
 // Whether it is so of each check-in.
 fn all_are_new<B: Book>(alloc: Global, book: &B) -> Result<bool, AllocError>
-    ensures { TellsWhether result (AllAreNew (B.state book.now).lists.checkins) }
+    ensures { let checkins = (B.state book.now).lists.checkins in
+        TellsWhether result (AllByRecursion (λ c. is_new checkins c ≡ true) checkins) }
 {
     let checkins = book.checkins();
     for row in checkins {

@@ -2,8 +2,7 @@
 
 ghost use Rattle.std.specs.Prelude.{◌↔◌, IsTrue};
 ghost use Rattle.model_rows.specs.Ordered.{AllOrdered};
-ghost use Rattle.model_invariant.specs.Positions.{AreWhole, of_order};
-ghost use Rattle.file_check.specs.Tested.{OrdersHavePositions, PositionsHaveOrders};
+ghost use Rattle.model_invariant.specs.Positions.{AllHavePositions, AreOfOrders, AreWhole, of_order};
 ghost use Rattle.model_rules.specs.Tests.{TellsWhether};
 
 use crate::all_have_own_secrets;
@@ -40,7 +39,8 @@ fn has_positions<B: Book>(alloc: Global, book: &B, order: &Order) -> Result<bool
 
 /// Whether each order has 1 to 500 positions, numbered from 1 to their count, in whatever order of their ids.
 pub fn keeps_positions<B: Book>(alloc: Global, book: &B) -> Result<bool, AllocError>
-    ensures { TellsWhether result (OrdersHavePositions (B.state book.now).lists) }
+    ensures { let lists = (B.state book.now).lists in
+        TellsWhether result (AllHavePositions lists.orders lists.positions) }
 {
     let orders = book.orders();
     for order in orders {
@@ -62,7 +62,8 @@ pub fn all_ordered<B: Book>(book: &B) -> bool
 
 /// Whether the order of each order position stands, and its secret ends in the order's number and its own there.
 pub fn are_of_orders<B: Book>(alloc: Global, book: &B) -> Result<bool, AllocError>
-    ensures { TellsWhether result (PositionsHaveOrders (B.state book.now).lists) }
+    ensures { let lists = (B.state book.now).lists in
+        TellsWhether result (AreOfOrders lists.orders lists.positions) }
 {
     let own = all_have_own_secrets(alloc, book.positions())?;
     Ok(all_ordered(book) && own)

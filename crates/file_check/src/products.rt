@@ -1,10 +1,10 @@
 //! The tests of what rows name in the catalogue.
 
-ghost use Rattle.std.specs.Prelude.{◌≡◌, ◌↔◌, IsTrue};
+ghost use Rattle.std.specs.Prelude.{◌≡◌, ◌↔◌, IsTrue, true};
+ghost use Rattle.std.specs.List.{AllByRecursion};
 ghost use Rattle.model_invariant.specs.Sent.{voucher_stands, AllSent};
 ghost use Rattle.model_invariant.specs.Varied.{is_of_varied, is_named_as_sold, IsProduct, AllVaried, AllProducts};
 ghost use Rattle.model_rows.specs.Fits.{is_fit, AllFit};
-ghost use Rattle.file_check.specs.Tested.{CartsHaveProducts, PositionsHaveProducts, EntriesHaveProducts, CartsFit};
 
 use book_usage::rules::fits;
 use book_usage::{Book, Catalogue};
@@ -51,7 +51,8 @@ fn is_product(catalogue: &Catalogue, product: Product) -> bool
 
 // Whether it is so of the product of each cart position.
 fn carts_have_products<B: Book>(book: &B) -> bool
-    ensures { IsTrue result ↔ CartsHaveProducts (B.state book.now).lists }
+    ensures { let lists = (B.state book.now).lists in
+        IsTrue result ↔ AllByRecursion (λ c. IsProduct lists.catalogue c.product) lists.carts }
 {
     for row in book.carts().iter() {
         if !is_product(book.catalogue(), row.product) {
@@ -63,7 +64,8 @@ fn carts_have_products<B: Book>(book: &B) -> bool
 
 // Whether it is so of the product of each order position.
 fn positions_have_products<B: Book>(book: &B) -> bool
-    ensures { IsTrue result ↔ PositionsHaveProducts (B.state book.now).lists }
+    ensures { let lists = (B.state book.now).lists in
+        IsTrue result ↔ AllByRecursion (λ p. IsProduct lists.catalogue p.product) lists.positions }
 {
     let catalogue = book.catalogue();
     book.positions()
@@ -73,7 +75,8 @@ fn positions_have_products<B: Book>(book: &B) -> bool
 
 // Whether it is so of the product of each waiting entry.
 fn entries_have_products<B: Book>(book: &B) -> bool
-    ensures { IsTrue result ↔ EntriesHaveProducts (B.state book.now).lists }
+    ensures { let lists = (B.state book.now).lists in
+        IsTrue result ↔ AllByRecursion (λ w. IsProduct lists.catalogue w.product) lists.waiting }
 {
     for row in book.waiting().iter() {
         if !is_product(book.catalogue(), row.product) {
@@ -128,7 +131,8 @@ fn is_fit<B: Book>(book: &B, product: Product, voucher: Option<u64>) -> bool
 
 // Whether it is so of each cart position.
 fn carts_fit<B: Book>(book: &B) -> bool
-    ensures { IsTrue result ↔ CartsFit (B.state book.now).lists }
+    ensures { let lists = (B.state book.now).lists in
+        IsTrue result ↔ AllByRecursion (λ c. is_fit lists c.product c.voucher ≡ true) lists.carts }
 {
     for row in book.carts().iter() {
         if !is_fit(book, row.product, row.voucher) {

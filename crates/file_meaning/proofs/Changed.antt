@@ -134,8 +134,8 @@ kept_order (DropVoucher id) lists r o = record { ids = Each.set_vouchers o.ids (
 kept_order (DropCart id) lists r o = record { ids = Each.set_carts o.ids (drop_stays (λ r. r.id) id lists.carts o.ids.carts); members = o.members; limits = o.limits }
 kept_order (DropWaiting id) lists r o = record { ids = Each.set_waiting o.ids (drop_stays (λ r. r.id) id lists.waiting o.ids.waiting); members = o.members; limits = o.limits }
 kept_order (PutCheckinList row) lists r o = record {
-  ids = record { items = o.ids.items; variations = o.ids.variations; quotas = o.ids.quotas; vouchers = o.ids.vouchers; carts = o.ids.carts; orders = o.ids.orders; positions = o.ids.positions; waiting = o.ids.waiting; checkin_lists = put_stays (λ r. r.id) row lists.checkin_lists o.ids.checkin_lists; checkins = o.ids.checkins };
+  ids = Each.set_checkin_lists o.ids (put_stays (λ r. r.id) row lists.checkin_lists o.ids.checkin_lists);
   members = o.members;
   limits = put_all ItemsRise (λ r. r.id) row lists.checkin_lists r o.limits;
 }
-kept_order (PutCheckin row) lists r o = record { ids = record { items = o.ids.items; variations = o.ids.variations; quotas = o.ids.quotas; vouchers = o.ids.vouchers; carts = o.ids.carts; orders = o.ids.orders; positions = o.ids.positions; waiting = o.ids.waiting; checkin_lists = o.ids.checkin_lists; checkins = put_stays (λ r. r.id) row lists.checkins o.ids.checkins }; members = o.members; limits = o.limits }
+kept_order (PutCheckin row) lists r o = record { ids = Each.set_checkins o.ids (put_stays (λ r. r.id) row lists.checkins o.ids.checkins); members = o.members; limits = o.limits }

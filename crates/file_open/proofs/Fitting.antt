@@ -10,7 +10,7 @@ use Rattle.file_rows.specs.Fit.{IsStored, IsFitItem, IsFitVariation, IsFitQuota,
 use Rattle.file_rows.specs.Tables.{Tables}
 use Rattle.file_meaning.specs.Typed.{IsTypedItem, IsTypedVariation, IsTypedVoucher, IsTypedCart, IsTypedOrder, IsTypedPosition, IsTypedWaiting, IsTypedCheckin, AreTyped, AreBelowNext, IsTypedShop}
 use Rattle.file_scan.specs.declared.file.FileTables.{FileTables}
-use Rattle.file_scan.specs.Causes.{IsFitFile}
+use Rattle.file_scan.specs.Fits.{IsFitFile}
 use Rattle.file_scan.specs.Lawful.{AreFitAt}
 use Rattle.file_scan.specs.Read.{tables_of}
 use Rattle.file_scan.proofs.FitLemmas.{fit_read}

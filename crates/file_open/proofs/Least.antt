@@ -19,7 +19,8 @@ use Rattle.file_scan.specs.Lawful.{IsOfMachine}
 use Rattle.file_scan.specs.Read.{tables_of}
 use Rattle.file_rebuild.specs.Arranged.{arranged, rows_in, ArePaired, AreReadInOrder}
 use Rattle.file_meaning.specs.Typed.{AreBelowNext}
-use Rattle.file_open.specs.Opened.{KeepsIn, IsLeastIn, IsDamagedBy, IsWhy, IsBroken, IsReason}
+use Rattle.file_open.specs.Opened.{KeepsIn, IsLeastIn, IsDamagedBy, IsReason}
+use Rattle.file_open.specs.Why.{IsWhy, IsBroken}
 
 module _ (shop : ShopRow) (tokens : List Token) (rows : OfficeRows) (paired : Type 0) (file : File) where
   -- the first two rules speak of nothing beside the office

@@ -14,7 +14,7 @@ use Rattle.file_rows.specs.Tables.{Tables, HoldsAt}
 use Rattle.file_meaning.specs.Stands.{Stand}
 use Rattle.file_meaning.specs.Typed.{AreBelowNext, IsTypedShop}
 use Rattle.file_scan.specs.declared.file.FileTables.{FileTables}
-use Rattle.file_scan.specs.Causes.{IsFitFile}
+use Rattle.file_scan.specs.Fits.{IsFitFile}
 use Rattle.file_scan.specs.Read.{IsFileOf, tables_of}
 use Rattle.file_scan.proofs.FitLemmas.{fit_read}
 use Rattle.file_tables.specs.Begun.{of_this_version}

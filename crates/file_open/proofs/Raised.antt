@@ -1,5 +1,5 @@
 -- A file that was brought to this program's version.
-use Rattle.std.proofs.Common.{◌≡◌, ◌≤◌, ℕ, List, [], ◌∷◌, ◌∙◌, map, filter, not, ◌==◌, IsTrue, Bool, true, false, Result, Ok, Err, OnOk, OnErr, refl, sym, ap, subst}
+use Rattle.std.proofs.Common.{◌≡◌, ◌≤◌, ℕ, List, [], ◌∷◌, ◌∙◌, filter, not, ◌==◌, IsTrue, Bool, true, false, Result, Ok, Err, OnErr, refl, sym, ap, subst}
 use Rattle.sqlite_trees.specs.Tree.{Trees}
 use Rattle.sqlite.specs.Effect.{Database, IsDatabase}
 use Rattle.sqlite.specs.State.{State as Connected, IsUnchanged}
@@ -18,13 +18,10 @@ use Rattle.file_scan.specs.Rests.{IsAt, IsOpenAt, StaysOpen}
 use Rattle.file_tables.specs.Begun.{IsUpgraded, of_this_version}
 use Rattle.file_tables.proofs.Upgrades.{upgraded_stands}
 use Rattle.file_open.specs.Migrated.{IsMigrated, IsOfVersion, MayBeMigrated}
-use Rattle.file_open.specs.Opened.{IsOpened}
+use Rattle.file_open.specs.Opened.{IsOpened, answers_in}
 use Rattle.file_open.specs.Supplied.{brought, lacking_exits, lacking_spents, supplied}
 use Rattle.file_open.specs.Upgraded.{HoldsShopAt}
 use Rattle.file_open.proofs.ItsVersion.{read_version}
-
-abbrev kept_in : Tables → List Kept
-kept_in t = map (λ r. r.kept) t.kept
 
 -- a shop is held by a connection that shows the same
 pub moved : (version : ℕ) (head : ShopRow) (t : Tables) (s : State) (ks : List Kept) (c d : Connected) → HoldsShopAt version head t s ks c → IsTrue d.is_open → d.now ≡ c.now → d.now ≡ d.committed → HoldsShopAt version head t s ks d
@@ -75,13 +72,13 @@ opened_migrated head next s old new at known o version sound same =
       tables = t;
       office = s;
       held = record { is_open = at.is_open; settled = sym at.committed; known = known; held = record { shown = o.held; none = tt }; stand = o.stand; typed = typed; sound = sound };
-      holds = brought_holds this_version head t s (kept_in t) o.stand typed sound new same.0.is_open (same.0.now_is ∙ sym at.committed ∙ sym same.0.committed_is) (ap (λ (b : Database). b.schema) same.0.now_is ∙ known)
+      holds = brought_holds this_version head t s (answers_in t) o.stand typed sound new same.0.is_open (same.0.now_is ∙ sym at.committed ∙ sym same.0.committed_is) (ap (λ (b : Database). b.schema) same.0.now_is ∙ known)
           (subst (λ (b : Database). Holds b.trees (brought this_version head t)) (sym same.0.now_is) here);
     }
 
 -- ---- an earlier one
 
-module _ (from : ℕ) (head : ShopRow) (t : Tables) (s : State) (old mid new : Connected) (same : IsUnchanged old mid) (holds : (db : Database) → IsOpenAt db old → db.schema ≡ schema_of_version from → HoldsShopAt from head t s (kept_in t) mid) where
+module _ (from : ℕ) (head : ShopRow) (t : Tables) (s : State) (old mid new : Connected) (same : IsUnchanged old mid) (holds : (db : Database) → IsOpenAt db old → db.schema ≡ schema_of_version from → HoldsShopAt from head t s (answers_in t) mid) where
   -- it was written
   pub raised : IsOpenAt old.now old → old.now.schema ≡ schema_of_version from → IsWritten (IsUpgraded (of_this_version head) (lacking_exits from t.counts) (lacking_spents from t.vouchers) from) mid new → IsMigrated from old new
   raised at known written =
@@ -90,8 +87,8 @@ module _ (from : ℕ) (head : ShopRow) (t : Tables) (s : State) (old mid new : C
         head = head;
         tables = t;
         office = s;
-        held = moved from head t s (kept_in t) mid old its at.is_open (sym same.0.now_is) (sym at.committed);
-        holds = brought_holds from head t s (kept_in t) its.stand its.typed its.sound new written.is_open written.settled written.turned.known (written.turned.holds t its.held);
+        held = moved from head t s (answers_in t) mid old its at.is_open (sym same.0.now_is) (sym at.committed);
+        holds = brought_holds from head t s (answers_in t) its.stand its.typed its.sound new written.is_open written.settled written.turned.known (written.turned.holds t its.held);
       }
 
   -- it may have been
@@ -106,7 +103,7 @@ module _ (from : ℕ) (head : ShopRow) (t : Tables) (s : State) (old mid new : C
     tables = t;
     office = s;
     version_is = λ at version of. read_version version old.now of from (found old.now at);
-    held = λ at known. moved from head t s (kept_in t) mid old (holds old.now at known) at.is_open (sym same.0.now_is) (sym at.committed);
+    held = λ at known. moved from head t s (answers_in t) mid old (holds old.now at known) at.is_open (sym same.0.now_is) (sym at.committed);
     holds = λ at known.
         let its = holds old.now at known in
         let turned = may.turned its.known in
@@ -128,7 +125,7 @@ pub migrated_before : (from : ℕ) (old mid new : Connected) → StaysOpen old m
 migrated_before from old mid new stays opened at known migrated =
     let here = there old mid stays opened at in
     let m = migrated here.0 (ap (λ (b : Database). b.schema) here.1 ∙ known) in
-    record { head = m.head; tables = m.tables; office = m.office; held = moved from m.head m.tables m.office (kept_in m.tables) mid old m.held at.is_open (sym here.1) (sym at.committed); holds = m.holds }
+    record { head = m.head; tables = m.tables; office = m.office; held = moved from m.head m.tables m.office (answers_in m.tables) mid old m.held at.is_open (sym here.1) (sym at.committed); holds = m.holds }
 
 pub may_be_before : (old mid : Connected) (trees : Trees) → StaysOpen old mid → MayBeMigrated mid trees → MayBeMigrated old trees
 may_be_before old mid trees stays may = record {
@@ -142,7 +139,7 @@ may_be_before old mid trees stays may = record {
   version_is = λ at version of. let here = there old mid stays may.was_open at in may.version_is here.0 version (subst (IsOfVersion version) (sym here.1) of);
   held = λ at known.
       let here = there old mid stays may.was_open at in
-      moved may.from may.head may.tables may.office (kept_in may.tables) mid old (may.held here.0 (ap (λ (b : Database). b.schema) here.1 ∙ known)) at.is_open (sym here.1) (sym at.committed);
+      moved may.from may.head may.tables may.office (answers_in may.tables) mid old (may.held here.0 (ap (λ (b : Database). b.schema) here.1 ∙ known)) at.is_open (sym here.1) (sym at.committed);
   holds = λ at known. let here = there old mid stays may.was_open at in may.holds here.0 (ap (λ (b : Database). b.schema) here.1 ∙ known);
 }
 
@@ -154,10 +151,6 @@ still_at from old mid new same still opened db at known =
     record { now = kept.now ∙ same.0.now_is ∙ at.now; committed = kept.committed ∙ same.0.committed_is ∙ at.committed }
 
 -- ---- what follows of a result
-
-pub on_on : {T E : Type 0} (r : Result T E) (P Q : Type 0) → OnOk r P → (P → Q) → OnOk r Q
-on_on (Ok x) P Q h k = k h
-on_on (Err e) P Q h k = tt
 
 pub err_from : {T E : Type 0} (r : Result T E) (A P Q : Type 0) → (A → OnErr r P) → ((A → P) → Q) → OnErr r Q
 err_from (Ok x) A P Q h k = tt

@@ -9,7 +9,7 @@ use Rattle.file_scan.specs.declared.file.FileTables.{FileTables}
 use Rattle.file_scan.specs.Causes.{IsCauseAs, IsReadableAs}
 use Rattle.file_scan.specs.Lawful.{IsOfMachine}
 use Rattle.file_scan.specs.Read.{tables_of}
-use Rattle.file_open.specs.Opened.{IsWhy}
+use Rattle.file_open.specs.Why.{IsWhy}
 use Rattle.file_open.specs.Refusals.{IsReasonAs, IsWhyAs}
 use Rattle.file_open.specs.Supplied.{supplied}
 

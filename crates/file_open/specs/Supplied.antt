@@ -1,13 +1,14 @@
 -- What the tables of an earlier version don't tell: that no ticket of a quota is out and none releases places; that nothing is spent of a voucher,
 -- none has a budget, and no price was lowered by one. And the tables that such a version becomes.
 use Rattle.std.specs.Prelude.{◌≡◌, ℕ, zero, suc, List, [], map}
+use Rattle.sqlite.specs.Effect.{Database}
 use Rattle.file_rows.specs.declared.rows.CountRow.{CountRow}
 use Rattle.file_rows.specs.declared.rows.ExitRow.{ExitRow}
 use Rattle.file_rows.specs.declared.rows.ShopRow.{ShopRow}
 use Rattle.file_rows.specs.declared.rows.SpentRow.{SpentRow}
 use Rattle.file_rows.specs.declared.rows.VoucherRow.{VoucherRow}
 use Rattle.file_rows.specs.Tables.{Tables}
-use Rattle.file_tables.specs.Begun.{of_this_version, with_exits, with_head, with_spents}
+use Rattle.file_tables.specs.Begun.{IsUpgraded, of_this_version, with_exits, with_head, with_spents}
 
 -- of this count no ticket is out
 abbrev pub none_out : CountRow → ExitRow
@@ -38,6 +39,10 @@ pub record AreLacking (version : ℕ) (t : Tables) (out : List ExitRow) (spent :
 -- the tables of a version with the rows that this program's has beside them
 abbrev pub supplied : ℕ → Tables → Tables
 supplied version t = with_spents (lacking_spents version t.vouchers) (with_exits (lacking_exits version t.counts) t)
+
+-- what a file of a version becomes that is brought to this program's: it gets these rows, and its shop's row gets the version
+abbrev pub Brings : ℕ → ShopRow → Tables → Database → Database → Type 0
+Brings version head t = IsUpgraded (of_this_version head) (lacking_exits version t.counts) (lacking_spents version t.vouchers) version
 
 -- those of this program's version that become of them: the shop's row tells the version, and all other rows are as they were
 abbrev pub brought : ℕ → ShopRow → Tables → Tables

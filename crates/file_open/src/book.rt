@@ -1,6 +1,6 @@
 //! A book of the rows of a file.
 
-ghost use Rattle.std.specs.Prelude.{◌≡◌, ◌≤◌, ◌⊎◌, ℕ, Some, None, map, IfOk, IfErr, IfSome, IfNone, OnOk, IsTrue};
+ghost use Rattle.std.specs.Prelude.{◌≡◌, ◌≤◌, ◌⊎◌, ℕ, Some, None, IfOk, IfErr, IfSome, IfNone, OnOk, IsTrue};
 ghost use Rattle.model_rows.specs.Lists.{empty};
 ghost use Rattle.model_invariant.specs.Sound.{IsSound};
 ghost use Rattle.file_rows.specs.Tables.{Tables};
@@ -13,7 +13,8 @@ ghost use Rattle.model_rules.specs.Told.{state_of, file_of};
 ghost use Rattle.file_check.specs.Last.{KeepsFirst};
 ghost use Rattle.file_scan.specs.Read.{IsFileOf};
 ghost use Rattle.file_meaning.specs.Typed.{AreBelowNext};
-ghost use Rattle.file_open.specs.Opened.{IsBroken, IsWhy};
+ghost use Rattle.file_open.specs.Opened.{answers_in, AreNamesOf};
+ghost use Rattle.file_open.specs.Why.{IsBroken, IsWhy};
 
 use crate::rows::{first_kept, free_number};
 use base_values::Slug;
@@ -97,12 +98,11 @@ pub(crate) fn open_rows<B: Book + Drop>(
 ) -> Result<Reopened<B>, OpenError>
     requires { B.state book ≡ empty }
     ensures head { IfOk result (λ it. it.head ≡ file.shop) }
-    ensures names { IfOk result
-        (λ it. (it.organizer ≡ it.head.organizer) × (it.event ≡ it.head.event)) }
+    ensures names { IfOk result (λ it. AreNamesOf it.head it.organizer it.event) }
     ensures sound { IfOk result (λ it. IsSound (B.state it.book)) }
     ensures numbered { OnOk result (AreBelowNext file.shop file.tables.others.tokens.items) }
     ensures held { IfOk result (λ it. (t : Tables) → IsFileOf t file
-        → Stand it.head t (B.state it.book) (map (λ r. r.kept) t.kept) × IsFree it.next_row t
+        → Stand it.head t (B.state it.book) (answers_in t) × IsFree it.next_row t
         × ((number : ℕ) → IsFree number t → it.next_row ≤ number)) }
     ensures refused { IfErr result (IsWhy file) }
 {

@@ -1,8 +1,7 @@
 //! Laws of a shop's file over crashes.
 
-ghost use Rattle.std.specs.Prelude.{◌≡◌, ◌⊎◌, ◌+◌, ℕ, List, [], ◌∷◌, ◌++◌, map, IsTrue};
+ghost use Rattle.std.specs.Prelude.{◌≡◌, ◌⊎◌, ◌+◌, ℕ, List, [], ◌∷◌, ◌++◌, IsTrue};
 ghost use Rattle.sqlite.specs.Held.{state};
-ghost use Rattle.sqlite.specs.State.{Survives};
 ghost use Rattle.base_values.specs.declared.answer.Response.{Response};
 ghost use Rattle.model_rows.specs.Lists.{State, empty};
 ghost use Rattle.model_commands.specs.declared.replies.Reply.{Reply};
@@ -11,28 +10,26 @@ ghost use Rattle.file_schema.specs.Versions.{schema_of_version};
 ghost use Rattle.model_answers.specs.declared.kept.Kept.{Kept};
 ghost use Rattle.model_answers.specs.House.{House};
 ghost use Rattle.model_answers.specs.ShopView.{ShopView, IsSame};
-ghost use Rattle.file_schema.specs.Whole.{IsWritten, MayBeWritten};
-ghost use Rattle.file_tables.specs.Begun.{HasToken, IsUpgraded, of_this_version};
-ghost use Rattle.file_tables.specs.Shops.{HoldsWhileOpen, KnowsWhileOpen, Leaves};
+ghost use Rattle.file_schema.specs.Whole.{IsWritten, LeavesWhole};
+ghost use Rattle.file_tables.specs.Begun.{HasToken};
+ghost use Rattle.file_tables.specs.Shops.{KnowsWhileOpen};
 ghost use Rattle.file_rows.specs.declared.rows.ShopRow.{ShopRow};
 ghost use Rattle.file_rows.specs.Tables.{Tables as Held};
-ghost use Rattle.file_scan.specs.declared.error.OpenError.{OpenError};
-ghost use Rattle.file_scan.specs.Lawful.{IsOfMachine};
-ghost use Rattle.file_open.specs.Opened.{IsReason, IsOpened};
+ghost use Rattle.file_open.specs.Opened.{answers_in, shop_in, IsFaultless};
 ghost use Rattle.office_deliveries.specs.Deliveries.{Delivery, Opening};
 ghost use Rattle.office_deliveries.specs.Shops.{Stands, stood};
-ghost use Rattle.office_deliveries.specs.Histories.{Event, Crashed, Running, MayLeave, Happens, ComesTo, IsRunning, Reopened, opened};
+ghost use Rattle.office_deliveries.specs.Histories.{Event, Crashed, Running, Happens, ComesTo, Reopened, opened};
 ghost use Rattle.file_tables.specs.Made.{IsMade};
 ghost use Rattle.file_tables.specs.Tokens.{house_with, raised, next_one};
 ghost use Rattle.file_scan.specs.Rests.{IsOpenAt};
-ghost use Rattle.file_open.specs.Found.{IsFound};
-ghost use Rattle.file_open.specs.Migrated.{IsMigrated, IsOfVersion, MayBeMigrated};
-ghost use Rattle.file_open.specs.Supplied.{lacking_exits, lacking_spents};
+ghost use Rattle.file_open.specs.Migrated.{IsMigrated, IsOfVersion, LeavesMigrated};
+ghost use Rattle.file_open.specs.Supplied.{Brings};
 ghost use Rattle.file_open.specs.Upgraded.{HoldsShopAt, IsOpenedAsBefore};
+ghost use Rattle.file_open.specs.Running.{Finds, HoldsShop, KnowsHouse, LeavesShop, Opens, Runs, RunsOn, ShowsSame};
+ghost use Rattle.file_schema.specs.Clean.{LeavesNoMore};
 
 use file_schema::schema_known;
 use file_tables::SqlTables;
-use model_answers::Tables;
 use sqlite::{Alter, Connection};
 
 /// A shop's file that was just made runs from the opening without rows and answers.
@@ -40,8 +37,8 @@ pub fn a_made_shop_runs<S: Alter>(blank: &Connection<S>, made: &SqlTables<S>)
     ensures { (words : Reply → Response) (first : ShopRow)
         → IsMade first (state S.Store blank.now) made.now.head made.now.next_row
         (state S.Store made.now.connection)
-        → IsRunning words ⟦<SqlTables<S> as Tables>⟧.holds ⟦<SqlTables<S> as Tables>⟧.may_leave
-        made.now empty (opened words (stood words (record { state = empty; kept = [] }) [])) }
+        → Runs S.Store words made.now empty
+        (opened words (stood words (record { state = empty; kept = [] }) [])) }
 {
     let _ = blank;
     let _ = made;
@@ -57,41 +54,28 @@ pub fn a_shop_runs_on_after_a_crash<S: Alter>(
     fresh: &Connection<S>,
     after: &SqlTables<S>,
 )
-    ensures reopened { IsFound (state S.Store before.now.connection) (state S.Store fresh.now)
-        → (z : State) (o : IsOpened
-        (state S.Store fresh.now).now.trees after.now.head after.now.next_row z
-        (state S.Store after.now.connection))
-        → Reopened ⟦<SqlTables<S> as Tables>⟧.holds ⟦<SqlTables<S> as Tables>⟧.may_leave before.now
-        after.now (record { state = z; kept = map (λ r. r.kept) o.tables.kept }) }
-    ensures known { (house : House) → ⟦<SqlTables<S> as Tables>⟧.knows before.now house
-        → IsFound (state S.Store before.now.connection) (state S.Store fresh.now)
+    ensures reopened { Finds S.Store before.now.connection fresh.now
+        → (z : State) (o : Opens S.Store fresh.now after.now z)
+        → Reopened (HoldsShop S.Store) (LeavesShop S.Store) before.now after.now
+        (shop_in z o.tables) }
+    ensures known { (house : House) → KnowsHouse S.Store before.now house
+        → Finds S.Store before.now.connection fresh.now
         → (state S.Store fresh.now).now.schema ≡ schema }
-    ensures house { (house : House) → ⟦<SqlTables<S> as Tables>⟧.knows before.now house
-        → IsFound (state S.Store before.now.connection) (state S.Store fresh.now) → (z : State)
-        → IsOpened (state S.Store fresh.now).now.trees after.now.head after.now.next_row z
-        (state S.Store after.now.connection)
-        → ⟦<SqlTables<S> as Tables>⟧.knows after.now house
-        × (after.now.head.organizer ≡ house.organizer) × (after.now.head.event ≡ house.event) }
+    ensures house { (house : House) → KnowsHouse S.Store before.now house
+        → Finds S.Store before.now.connection fresh.now → (z : State)
+        → Opens S.Store fresh.now after.now z
+        → KnowsHouse S.Store after.now house × (after.now.head.organizer ≡ house.organizer)
+        × (after.now.head.event ≡ house.event) }
     ensures runs { (words : Reply → Response) (s : State) (r : Running)
-        → IsRunning words ⟦<SqlTables<S> as Tables>⟧.holds ⟦<SqlTables<S> as Tables>⟧.may_leave
-        before.now s r → IsFound (state S.Store before.now.connection) (state S.Store fresh.now)
-        → (z : State) → IsOpened
-        (state S.Store fresh.now).now.trees after.now.head after.now.next_row z
-        (state S.Store after.now.connection)
-        → (x : ShopView) × MayLeave words r x
-        × IsRunning words ⟦<SqlTables<S> as Tables>⟧.holds ⟦<SqlTables<S> as Tables>⟧.may_leave
-        after.now z (opened words x) }
+        → Runs S.Store words before.now s r → Finds S.Store before.now.connection fresh.now
+        → (z : State) → Opens S.Store fresh.now after.now z → RunsOn S.Store words r after.now z }
     ensures stands { (words : Reply → Response) (p : Opening) (events : List Event) (s : State)
         (r : Running) → Happens words (opened words (stood words p [])) events r
-        → IsRunning words ⟦<SqlTables<S> as Tables>⟧.holds ⟦<SqlTables<S> as Tables>⟧.may_leave
-        before.now s r → IsFound (state S.Store before.now.connection) (state S.Store fresh.now)
-        → (z : State) → IsOpened
-        (state S.Store fresh.now).now.trees after.now.head after.now.next_row z
-        (state S.Store after.now.connection)
+        → Runs S.Store words before.now s r → Finds S.Store before.now.connection fresh.now
+        → (z : State) → Opens S.Store fresh.now after.now z
         → (x : ShopView)
         × Happens words (opened words (stood words p [])) (events ++ Crashed ∷ []) (opened words x)
-        × IsRunning words ⟦<SqlTables<S> as Tables>⟧.holds ⟦<SqlTables<S> as Tables>⟧.may_leave
-        after.now z (opened words x)
+        × Runs S.Store words after.now z (opened words x)
         × ((whole : List Delivery) × ComesTo words p [] [] (events ++ Crashed ∷ []) whole
         × Stands words p whole x) }
 {
@@ -111,27 +95,17 @@ pub fn a_crash_while_opening_loses_nothing<S: Alter>(
     again: &Connection<S>,
     after: &SqlTables<S>,
 )
-    ensures found { IsFound (state S.Store before.now.connection) (state S.Store fresh.now)
-        → Survives (state S.Store fresh.now) (state S.Store tried.now) (λ _. ⊥)
-        → IsFound (state S.Store tried.now) (state S.Store again.now)
-        → IsFound (state S.Store before.now.connection) (state S.Store again.now)
-        × ((state S.Store again.now).now ≡ (state S.Store fresh.now).now) }
-    ensures house { (house : House) → ⟦<SqlTables<S> as Tables>⟧.knows before.now house
-        → IsFound (state S.Store before.now.connection) (state S.Store fresh.now)
-        → Survives (state S.Store fresh.now) (state S.Store tried.now) (λ _. ⊥)
-        → IsFound (state S.Store tried.now) (state S.Store again.now) → (z : State)
-        → IsOpened (state S.Store again.now).now.trees after.now.head after.now.next_row z
-        (state S.Store after.now.connection) → ⟦<SqlTables<S> as Tables>⟧.knows after.now house }
+    ensures found { Finds S.Store before.now.connection fresh.now
+        → LeavesNoMore S.Store fresh.now tried.now → Finds S.Store tried.now again.now
+        → Finds S.Store before.now.connection again.now × ShowsSame S.Store fresh.now again.now }
+    ensures house { (house : House) → KnowsHouse S.Store before.now house
+        → Finds S.Store before.now.connection fresh.now → LeavesNoMore S.Store fresh.now tried.now
+        → Finds S.Store tried.now again.now → (z : State) → Opens S.Store again.now after.now z
+        → KnowsHouse S.Store after.now house }
     ensures runs { (words : Reply → Response) (s : State) (r : Running)
-        → IsRunning words ⟦<SqlTables<S> as Tables>⟧.holds ⟦<SqlTables<S> as Tables>⟧.may_leave
-        before.now s r → IsFound (state S.Store before.now.connection) (state S.Store fresh.now)
-        → Survives (state S.Store fresh.now) (state S.Store tried.now) (λ _. ⊥)
-        → IsFound (state S.Store tried.now) (state S.Store again.now) → (z : State)
-        → IsOpened (state S.Store again.now).now.trees after.now.head after.now.next_row z
-        (state S.Store after.now.connection)
-        → (x : ShopView) × MayLeave words r x
-        × IsRunning words ⟦<SqlTables<S> as Tables>⟧.holds ⟦<SqlTables<S> as Tables>⟧.may_leave
-        after.now z (opened words x) }
+        → Runs S.Store words before.now s r → Finds S.Store before.now.connection fresh.now
+        → LeavesNoMore S.Store fresh.now tried.now → Finds S.Store tried.now again.now → (z : State)
+        → Opens S.Store again.now after.now z → RunsOn S.Store words r after.now z }
 {
     schema_known(fresh);
     let _ = tried;
@@ -142,11 +116,10 @@ pub fn a_crash_while_opening_loses_nothing<S: Alter>(
 /// After a crash of a running shop, whose tables knew a house, its file holds a shop, and so is opened, or refused for want of memory or
 /// because the store fails, and never with 60, 61 or 62.
 pub fn a_crash_damages_nothing<S: Alter>(before: &SqlTables<S>, fresh: &Connection<S>)
-    ensures { (house : House) → ⟦<SqlTables<S> as Tables>⟧.knows before.now house
-        → (words : Reply → Response) (s : State) (r : Running)
-        → IsRunning words ⟦<SqlTables<S> as Tables>⟧.holds ⟦<SqlTables<S> as Tables>⟧.may_leave
-        before.now s r → IsFound (state S.Store before.now.connection) (state S.Store fresh.now)
-        → (error : OpenError) → IsReason (state S.Store fresh.now).now error → IsOfMachine error }
+    ensures { (house : House) → KnowsHouse S.Store before.now house
+        → (words : Reply → Response) (s : State) (r : Running) → Runs S.Store words before.now s r
+        → Finds S.Store before.now.connection fresh.now
+        → IsFaultless (state S.Store fresh.now).now }
 {
     let _ = before;
     schema_known(fresh);
@@ -155,18 +128,13 @@ pub fn a_crash_damages_nothing<S: Alter>(before: &SqlTables<S>, fresh: &Connecti
 /// A token that is added changes nothing of a running shop: what `add_token` promises of the office and the answers, and of what a crash in
 /// it may leave, keeps it running.
 pub fn a_token_leaves_a_shop_running<S: Alter>(old: &SqlTables<S>, new: &SqlTables<S>)
-    ensures { (words : Reply → Response) (s : State) (r : Running)
-        → IsRunning words ⟦<SqlTables<S> as Tables>⟧.holds ⟦<SqlTables<S> as Tables>⟧.may_leave
-        old.now s r → ((z : State) (ks : List Kept)
-        → HoldsWhileOpen old.now.head old.now.next_row (state S.Store old.now.connection) z ks
-        → HoldsWhileOpen new.now.head new.now.next_row (state S.Store new.now.connection) z ks)
-        → ((left : ShopView) → Leaves (state S.Store new.now.connection) left
-        → Leaves (state S.Store old.now.connection) left
-        ⊎ ((z : State) (ks : List Kept)
-        → HoldsWhileOpen old.now.head old.now.next_row (state S.Store old.now.connection) z ks
-        → IsSame left (record { state = z; kept = ks })))
-        → IsRunning words ⟦<SqlTables<S> as Tables>⟧.holds ⟦<SqlTables<S> as Tables>⟧.may_leave
-        new.now s r }
+    ensures { (words : Reply → Response) (s : State) (r : Running) → Runs S.Store words old.now s r
+        → ((z : State) (ks : List Kept) → HoldsShop S.Store old.now z ks
+        → HoldsShop S.Store new.now z ks)
+        → ((left : ShopView) → LeavesShop S.Store new.now left
+        → LeavesShop S.Store old.now left
+        ⊎ ((z : State) (ks : List Kept) → HoldsShop S.Store old.now z ks
+        → IsSame left (record { state = z; kept = ks }))) → Runs S.Store words new.now s r }
 {
     let _ = old;
     let _ = new;
@@ -181,18 +149,14 @@ pub fn a_token_is_in_or_out<S: Alter>(
     after: &SqlTables<S>,
 )
     ensures { (digest : List ℕ) (house : House) (s : State) (ks : List Kept)
-        → IsTrue (state S.Store old.now.connection).is_open
-        → HoldsWhileOpen old.now.head old.now.next_row (state S.Store old.now.connection) s ks
+        → IsTrue (state S.Store old.now.connection).is_open → HoldsShop S.Store old.now s ks
         → KnowsWhileOpen old.now.head old.now.next_row (state S.Store old.now.connection) house
-        → Survives (state S.Store old.now.connection) (state S.Store new.now.connection)
-        (MayBeWritten schema
+        → LeavesWhole S.Store old.now.connection new.now.connection schema
         (λ (_ : Unit {0}). HasToken (raised old.now.head) (next_one old.now.head digest))
-        (state S.Store old.now.connection))
-        → IsFound (state S.Store new.now.connection) (state S.Store fresh.now) → (z : State)
-        → IsOpened (state S.Store fresh.now).now.trees after.now.head after.now.next_row z
-        (state S.Store after.now.connection)
-        → ⟦<SqlTables<S> as Tables>⟧.knows after.now house
-        ⊎ ⟦<SqlTables<S> as Tables>⟧.knows after.now
+        → Finds S.Store new.now.connection fresh.now → (z : State)
+        → Opens S.Store fresh.now after.now z
+        → KnowsHouse S.Store after.now house
+        ⊎ KnowsHouse S.Store after.now
         (house_with digest old.now.head.next_token (old.now.head.next_token + 1) house) }
 {
     let _ = old;
@@ -211,16 +175,13 @@ pub fn an_upgrade_is_in_or_out<S: Alter>(
 )
     ensures done { (from : ℕ) (head : ShopRow) (t : Held) (s : State) (ks : List Kept)
         → HoldsShopAt from head t s ks (state S.Store old.now)
-        → IsWritten (IsUpgraded (of_this_version head) (lacking_exits from t.counts)
-        (lacking_spents from t.vouchers) from) (state S.Store old.now) (state S.Store new.now)
+        → IsWritten (Brings from head t) (state S.Store old.now) (state S.Store new.now)
         → IsOpenedAsBefore head t s ks (state S.Store new.now).now (state S.Store opened.now) }
     ensures crash { (from : ℕ) (head : ShopRow) (t : Held) (s : State) (ks : List Kept)
         → HoldsShopAt from head t s ks (state S.Store old.now)
-        → Survives (state S.Store old.now) (state S.Store new.now)
-        (MayBeWritten (schema_of_version from) (λ (_ : Unit {0}). IsUpgraded (of_this_version head)
-        (lacking_exits from t.counts) (lacking_spents from t.vouchers) from)
-        (state S.Store old.now)) → IsFound (state S.Store new.now) (state S.Store fresh.now)
-        → ((state S.Store fresh.now).now ≡ (state S.Store old.now).now)
+        → LeavesWhole S.Store old.now new.now (schema_of_version from)
+        (λ (_ : Unit {0}). Brings from head t) → Finds S.Store new.now fresh.now
+        → ShowsSame S.Store old.now fresh.now
         ⊎ IsOpenedAsBefore head t s ks (state S.Store fresh.now).now (state S.Store opened.now) }
 {
     schema_known(old);
@@ -238,17 +199,15 @@ pub fn a_migration_is_in_or_out<S: Alter>(
     opened: &Connection<S>,
 )
     ensures done { (from : ℕ) (it : IsMigrated from (state S.Store old.now) (state S.Store new.now))
-        → IsOpenedAsBefore it.head it.tables it.office (map (λ r. r.kept) it.tables.kept)
+        → IsOpenedAsBefore it.head it.tables it.office (answers_in it.tables)
         (state S.Store new.now).now (state S.Store opened.now) }
     ensures crash { (from : ℕ) → IsOpenAt (state S.Store old.now).now (state S.Store old.now)
-        → IsOfVersion from (state S.Store old.now).now
-        → Survives (state S.Store old.now) (state S.Store new.now)
-        (MayBeMigrated (state S.Store old.now))
-        → IsFound (state S.Store new.now) (state S.Store fresh.now)
-        → ((state S.Store fresh.now).now ≡ (state S.Store old.now).now)
+        → IsOfVersion from (state S.Store old.now).now → LeavesMigrated S.Store old.now new.now
+        → Finds S.Store new.now fresh.now
+        → ShowsSame S.Store old.now fresh.now
         ⊎ ((head : ShopRow) × (t : Held) × (s : State)
-        × HoldsShopAt from head t s (map (λ r. r.kept) t.kept) (state S.Store old.now)
-        × IsOpenedAsBefore head t s (map (λ r. r.kept) t.kept) (state S.Store fresh.now).now
+        × HoldsShopAt from head t s (answers_in t) (state S.Store old.now)
+        × IsOpenedAsBefore head t s (answers_in t) (state S.Store fresh.now).now
         (state S.Store opened.now)) }
 {
     schema_known(old);

@@ -1,21 +1,19 @@
 //! A shop's file of an earlier version is read, and what it holds is opened.
 
-ghost use Rattle.std.specs.Prelude.{◌≡◌, ◌≤◌, false, map, IfOk, IfErr, OnOk};
-ghost use Rattle.sqlite.specs.Effect.{Database};
+ghost use Rattle.std.specs.Prelude.{◌≡◌, ◌≤◌, false, IfOk, IfErr, OnOk};
 ghost use Rattle.sqlite.specs.Held.{state};
-ghost use Rattle.sqlite.specs.State.{HasCleanDisk};
 ghost use Rattle.file_schema.specs.Tables.{this_version};
-ghost use Rattle.file_schema.specs.Versions.{schema_of_version};
 ghost use Rattle.model_rows.specs.Lists.{empty};
-ghost use Rattle.file_scan.specs.Rests.{IsOpenAt, Rests};
+ghost use Rattle.file_scan.specs.Rests.{Rests};
 ghost use Rattle.model_invariant.specs.Sound.{IsSound};
 ghost use Rattle.file_rows.specs.Tables.{Tables};
-ghost use Rattle.file_scan.specs.Causes.{IsFitFile, IsReadableAs};
+ghost use Rattle.file_scan.specs.Causes.{IsReadableAs};
+ghost use Rattle.file_scan.specs.Fits.{IsFitFile};
 ghost use Rattle.file_scan.specs.Read.{tables_of};
 ghost use Rattle.file_open.specs.Refusals.{IsReasonAs, IsWhyAs};
 ghost use Rattle.file_open.specs.Supplied.{supplied, AreLacking};
-ghost use Rattle.file_open.specs.Upgraded.{HoldsShopAt, StandTyped};
-ghost use Rattle.file_scan.specs.Reading.{OfOpen, IsUnchangedWhere};
+ghost use Rattle.file_open.specs.Upgraded.{StandTyped, HoldsLacking};
+ghost use Rattle.file_scan.specs.Reading.{IsUnchangedWhere, TellsCause, FindsFile};
 ghost use Rattle.file_schema.specs.Clean.{LeavesNoMore};
 
 use crate::book::{Reopened, open_rows};
@@ -74,15 +72,10 @@ pub(crate) fn reopen_of<S: Alter, B: Book + Drop, P: Progress>(
     requires first { 1 ≤ own }
     requires version { own ≤ this_version }
     ensures held { IfOk result (λ it. (t : Tables)
-        × AreLacking own t it.lacking.exits.items it.lacking.spents.items
-        × (HasCleanDisk (state S.Store connection.new) → (db : Database)
-        → IsOpenAt db (state S.Store connection.old) → db.schema ≡ schema_of_version own
-        → HoldsShopAt own it.reopened.head t (B.state it.reopened.book) (map (λ r. r.kept) t.kept)
-        (state S.Store connection.new))) }
-    ensures found { OfOpen S.Store connection.old connection.new
-        (λ db. OnOk result (IsReadableAs own db)) }
-    ensures cause { OfOpen S.Store connection.old connection.new
-        (λ db. IfErr result (IsReasonAs own db)) }
+        × HoldsLacking own S.Store connection.old connection.new it.reopened.head
+        it.lacking.exits.items it.lacking.spents.items t (B.state it.reopened.book)) }
+    ensures found { FindsFile (IsReadableAs own) S.Store connection.old connection.new result }
+    ensures cause { TellsCause (IsReasonAs own) S.Store connection.old connection.new result }
     ensures same { IsUnchangedWhere (OnOk result) S.Store connection.old connection.new }
     ensures rests { Rests (state S.Store connection.old) (state S.Store connection.new) }
     ensures mode { connection.new.in_transaction ≡ false }

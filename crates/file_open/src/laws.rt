@@ -1,6 +1,6 @@
 //! Laws of a shop's file.
 
-ghost use Rattle.std.specs.Prelude.{◌≡◌, ◌≢◌, ◌≤◌, ◌⊎◌, ℕ, pos, List, map};
+ghost use Rattle.std.specs.Prelude.{◌≡◌, ◌≢◌, ◌≤◌, ◌⊎◌, ℕ, pos, List};
 ghost use Rattle.sqlite.specs.Held.{state};
 ghost use Rattle.file_schema.specs.Tables.{schema, this_version};
 ghost use Rattle.model_rows.specs.Lists.{State, empty};
@@ -16,7 +16,7 @@ ghost use Rattle.file_scan.specs.Rests.{IsAt};
 ghost use Rattle.file_scan.specs.Lawful.{IsOfMachine};
 ghost use Rattle.file_tables.specs.Shops.{Keeps};
 ghost use Rattle.file_tables.specs.Made.{first_shop, IsMade};
-ghost use Rattle.file_open.specs.Opened.{IsDamagedBy, IsReason, IsOpened};
+ghost use Rattle.file_open.specs.Opened.{IsDamagedBy, IsReason, IsOpened, shop_in, IsFaultless};
 ghost use Rattle.file_open.specs.Refusals.{IsUnmigrated};
 ghost use Rattle.file_open.specs.Upgraded.{HoldsShopAt};
 
@@ -34,14 +34,13 @@ pub fn what_is_held_is_opened<S: Alter>(held: &Connection<S>, opened: &Connectio
         → Keeps head next (state S.Store held.now) s ks → IsSound s → (rule : Rule)
         → ¬ IsDamagedBy rule (state S.Store held.now).now.trees }
     ensures no_fault { (head : ShopRow) (next : ℕ) (s : State) (ks : List Kept)
-        → Keeps head next (state S.Store held.now) s ks → IsSound s → (error : OpenError)
-        → IsReason (state S.Store held.now).now error → IsOfMachine error }
+        → Keeps head next (state S.Store held.now) s ks → IsSound s
+        → IsFaultless (state S.Store held.now).now }
     ensures same { (head : ShopRow) (next : ℕ) (s : State) (ks : List Kept)
         → Keeps head next (state S.Store held.now) s ks
         → (shop : ShopRow) (number : ℕ) (z : State)
         (o : IsOpened (state S.Store held.now).now.trees shop number z (state S.Store opened.now))
-        → (shop ≡ head) × IsSame (record { state = z; kept = map (λ r. r.kept) o.tables.kept })
-        (record { state = s; kept = ks }) }
+        → (shop ≡ head) × IsSame (shop_in z o.tables) (record { state = s; kept = ks }) }
 {
     let _ = held;
     let _ = opened;
@@ -57,8 +56,7 @@ pub fn what_is_made_is_opened<S: Alter>(
     ensures { (organizer event : List ℕ) (head : ShopRow) (next : ℕ)
         → IsMade (first_shop organizer event) (state S.Store blank.now) head next
         (state S.Store made.now) → IsAt (state S.Store made.now).now (state S.Store made.now)
-        × ((state S.Store made.now).now.schema ≡ schema)
-        × ((error : OpenError) → IsReason (state S.Store made.now).now error → IsOfMachine error)
+        × ((state S.Store made.now).now.schema ≡ schema) × IsFaultless (state S.Store made.now).now
         × ((shop : ShopRow) (number : ℕ) (z : State)
         → IsOpened (state S.Store made.now).now.trees shop number z (state S.Store opened.now)
         → (shop ≡ first_shop organizer event) × (z ≡ empty)) }

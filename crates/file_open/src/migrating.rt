@@ -1,12 +1,12 @@
 //! A shop's file of an earlier version is brought to this program's.
 
-ghost use Rattle.std.specs.Prelude.{◌≡◌, ◌≤◌, ◌<◌, ℕ, pos, false, map, IfOk, IfErr, IfNone, IfSome, OnOk, OnErr, IsTrue};
+ghost use Rattle.std.specs.Prelude.{◌≡◌, ◌≤◌, ◌<◌, ℕ, pos, false, IfOk, IfErr, IfNone, IfSome, OnOk, OnErr, IsTrue};
 ghost use Rattle.sqlite.specs.Effect.{Database};
 ghost use Rattle.sqlite.specs.Held.{state};
-ghost use Rattle.sqlite.specs.State.{HasCleanDisk, Survives};
+ghost use Rattle.sqlite.specs.State.{HasCleanDisk};
 ghost use Rattle.file_schema.specs.Tables.{schema, this_version};
 ghost use Rattle.file_schema.specs.Versions.{schema_of_version};
-ghost use Rattle.file_schema.specs.Whole.{IsOver, IsStill, IsWritten, MayBeWritten};
+ghost use Rattle.file_schema.specs.Whole.{WritesWhole};
 ghost use Rattle.model_rows.specs.Lists.{State, empty};
 ghost use Rattle.file_rows.specs.Tables.{Tables};
 ghost use Rattle.file_scan.specs.declared.error.OpenError.TheVariants.{Version};
@@ -14,12 +14,11 @@ ghost use Rattle.file_scan.specs.Causes.{IsReadable, IsReadableAs};
 ghost use Rattle.file_scan.specs.Lawful.{IsOfMachine};
 ghost use Rattle.file_scan.specs.Rests.{IsAt, IsOpenAt, Rests};
 ghost use Rattle.file_tables.specs.Begun.{IsUpgraded, of_this_version};
-ghost use Rattle.file_open.specs.Migrated.{IsMigrated, IsOfVersion, MayBeMigrated};
+ghost use Rattle.file_open.specs.Migrated.{IsMigrated, IsOfVersion, LeavesMigrated, WhereDeclared, WhileOpen};
 ghost use Rattle.file_open.specs.Opened.{IsReason};
 ghost use Rattle.file_open.specs.Refusals.{IsDeclaredByVersion, IsReasonAs, IsUnmigrated, TellsEarlier};
-ghost use Rattle.file_open.specs.Supplied.{AreLacking};
-ghost use Rattle.file_open.specs.Upgraded.{HoldsShopAt};
-ghost use Rattle.file_scan.specs.Reading.{OfOpen, IsUnchangedWhere};
+ghost use Rattle.file_open.specs.Upgraded.{HoldsLacking};
+ghost use Rattle.file_scan.specs.Reading.{IsUnchangedWhere, TellsCause, FindsFile};
 ghost use Rattle.file_schema.specs.Clean.{LeavesNoMore};
 
 use crate::book::Reopened;
@@ -58,15 +57,10 @@ fn look<S: Alter, B: Book + Drop, P: Progress>(
     progress: &mut P,
 ) -> Result<(), OpenError>
     requires { B.state book ≡ empty }
-    ensures found { OfOpen S.Store connection.old connection.new
-        (λ db. OnOk result (IsReadable db)) }
-    ensures migrated { HasCleanDisk (state S.Store connection.new)
-        → IsOpenAt (state S.Store connection.old).now (state S.Store connection.old)
-        → (state S.Store connection.old).now.schema ≡ schema
-        → OnOk result
-        (IsMigrated this_version (state S.Store connection.old) (state S.Store connection.new)) }
-    ensures cause { OfOpen S.Store connection.old connection.new
-        (λ db. IfErr result (IsReason db)) }
+    ensures found { FindsFile IsReadable S.Store connection.old connection.new result }
+    ensures migrated { WhereDeclared schema S.Store connection.old connection.new
+        (λ before after. OnOk result (IsMigrated this_version before after)) }
+    ensures cause { TellsCause IsReason S.Store connection.old connection.new result }
     ensures rests { Rests (state S.Store connection.old) (state S.Store connection.new) }
     ensures crash { LeavesNoMore S.Store connection.old connection.new }
 {
@@ -90,14 +84,10 @@ fn read_earlier<S: Alter, B: Book + Drop, P: Progress>(
     requires first { 1 ≤ from }
     requires version { from < this_version }
     ensures held { IfOk result (λ it. (t : Tables) × (s : State)
-        × AreLacking from t it.1.exits.items it.1.spents.items
-        × (HasCleanDisk (state S.Store connection.new) → (db : Database)
-        → IsOpenAt db (state S.Store connection.old) → db.schema ≡ schema_of_version from
-        → HoldsShopAt from it.0 t s (map (λ r. r.kept) t.kept) (state S.Store connection.new))) }
-    ensures found { OfOpen S.Store connection.old connection.new
-        (λ db. OnOk result (IsReadableAs from db)) }
-    ensures cause { OfOpen S.Store connection.old connection.new
-        (λ db. IfErr result (IsReasonAs from db)) }
+        × HoldsLacking from S.Store connection.old connection.new it.0 it.1.exits.items
+        it.1.spents.items t s) }
+    ensures found { FindsFile (IsReadableAs from) S.Store connection.old connection.new result }
+    ensures cause { TellsCause (IsReasonAs from) S.Store connection.old connection.new result }
     ensures same { IsUnchangedWhere (OnOk result) S.Store connection.old connection.new }
     ensures rests { Rests (state S.Store connection.old) (state S.Store connection.new) }
     ensures crash { LeavesNoMore S.Store connection.old connection.new }
@@ -120,18 +110,9 @@ fn write_version<S: Alter>(
     spents: &[SpentRow],
     from: u64,
 ) -> Result<(), OpenError>
-    ensures all { HasCleanDisk (state S.Store connection.new)
-        → IsOver (schema_of_version from) (state S.Store connection.old)
-        → OnOk result (IsWritten (IsUpgraded (of_this_version head) exits.now spents.now from)
-        (state S.Store connection.old) (state S.Store connection.new)) }
-    ensures none { HasCleanDisk (state S.Store connection.new)
-        → IsOver (schema_of_version from) (state S.Store connection.old)
-        → OnErr result (IsStill (state S.Store connection.old) (state S.Store connection.new)) }
+    ensures writes { WritesWhole S.Store connection.old connection.new (schema_of_version from)
+        (λ (_ : Unit {0}). IsUpgraded (of_this_version head) exits.now spents.now from) result }
     ensures machine { IfErr result IsOfMachine }
-    ensures crash { Survives (state S.Store connection.old) (state S.Store connection.new)
-        (MayBeWritten (schema_of_version from)
-        (λ (_ : Unit {0}). IsUpgraded (of_this_version head) exits.now spents.now from)
-        (state S.Store connection.old)) }
 {
     let mut shop = head;
     shop.version = VERSION;
@@ -154,20 +135,14 @@ fn raise<S: Alter, P: Progress>(
     requires version { from < this_version }
     ensures opened { HasCleanDisk (state S.Store connection.new)
         → OnOk result (IsTrue (state S.Store connection.old).is_open) }
-    ensures migrated { HasCleanDisk (state S.Store connection.new)
-        → IsOpenAt (state S.Store connection.old).now (state S.Store connection.old)
-        → (state S.Store connection.old).now.schema ≡ schema_of_version from
-        → OnOk result
-        (IsMigrated from (state S.Store connection.old) (state S.Store connection.new)) }
-    ensures none { HasCleanDisk (state S.Store connection.new)
-        → IsTrue (state S.Store connection.new).is_open
-        → OnErr result (IsTrue (state S.Store connection.old).is_open
+    ensures migrated { WhereDeclared (schema_of_version from) S.Store connection.old connection.new
+        (λ before after. OnOk result (IsMigrated from before after)) }
+    ensures none { WhileOpen S.Store connection.new
+        (OnErr result (IsTrue (state S.Store connection.old).is_open
         × ((db : Database) → IsAt db (state S.Store connection.old)
-        → db.schema ≡ schema_of_version from → IsAt db (state S.Store connection.new))) }
-    ensures cause { OfOpen S.Store connection.old connection.new
-        (λ db. IfErr result (IsReasonAs from db)) }
-    ensures crash { Survives (state S.Store connection.old) (state S.Store connection.new)
-        (MayBeMigrated (state S.Store connection.old)) }
+        → db.schema ≡ schema_of_version from → IsAt db (state S.Store connection.new)))) }
+    ensures cause { TellsCause (IsReasonAs from) S.Store connection.old connection.new result }
+    ensures crash { LeavesMigrated S.Store connection.old connection.new }
 {
     if !connection.is_autocommit() {
         return Err(OpenError::Store);
@@ -199,21 +174,15 @@ pub fn migrate<S: Alter, P: Progress>(
     ensures version { IfOk result (λ it. HasCleanDisk (state S.Store it.0)
         → IsOpenAt (state S.Store connection).now (state S.Store connection) → (version : ℕ)
         → IsOfVersion version (state S.Store connection).now → version ≡ it.1) }
-    ensures migrated { IfOk result (λ it. HasCleanDisk (state S.Store it.0)
-        → IsOpenAt (state S.Store connection).now (state S.Store connection)
-        → (state S.Store connection).now.schema ≡ schema_of_version it.1
-        → IsMigrated it.1 (state S.Store connection) (state S.Store it.0)) }
-    ensures none { IfErr result (λ it. HasCleanDisk (state S.Store it.connection)
-        → IsTrue (state S.Store it.connection).is_open → (db : Database)
+    ensures migrated { IfOk result (λ it. WhereDeclared (schema_of_version it.1)
+        S.Store connection it.0 (IsMigrated it.1)) }
+    ensures none { IfErr result (λ it. WhileOpen S.Store it.connection ((db : Database)
         → IsAt db (state S.Store connection) → IsDeclaredByVersion db
-        → IsAt db (state S.Store it.connection)) }
-    ensures cause { IfErr result (λ it. HasCleanDisk (state S.Store it.connection)
-        → IsTrue (state S.Store it.connection).is_open → (db : Database)
-        → IsOpenAt db (state S.Store connection) → IsUnmigrated db it.error) }
-    ensures crash { IfOk result (λ it. Survives (state S.Store connection) (state S.Store it.0)
-        (MayBeMigrated (state S.Store connection))) }
-    ensures crash_none { IfErr result (λ it. Survives (state S.Store connection)
-        (state S.Store it.connection) (MayBeMigrated (state S.Store connection))) }
+        → IsAt db (state S.Store it.connection))) }
+    ensures cause { IfErr result (λ it. WhileOpen S.Store it.connection ((db : Database)
+        → IsOpenAt db (state S.Store connection) → IsUnmigrated db it.error)) }
+    ensures crash { IfOk result (λ it. LeavesMigrated S.Store connection it.0) }
+    ensures crash_none { IfErr result (λ it. LeavesMigrated S.Store connection it.connection) }
 {
     let error = match look(alloc, &mut connection, Counters::new(alloc), progress) {
         Ok(()) => return Ok((connection, VERSION)),

@@ -8,12 +8,12 @@ ghost use Rattle.model_invariant.specs.Sound.{IsSound};
 ghost use Rattle.file_rows.specs.Tables.{Holds};
 ghost use Rattle.file_scan.specs.declared.error.OpenError.{OpenError};
 ghost use Rattle.file_scan.specs.Rests.{Rests};
-ghost use Rattle.file_scan.specs.Causes.{IsFitFile, IsReadable, IsCause};
-ghost use Rattle.file_scan.specs.Lawful.{IsOfMachine};
+ghost use Rattle.file_scan.specs.Causes.{IsReadable, IsCause};
+ghost use Rattle.file_scan.specs.Fits.{IsFitFile};
 ghost use Rattle.file_scan.specs.Read.{tables_of};
 ghost use Rattle.file_scan.specs.Stopped.{IsStopped, WhereClosed};
-ghost use Rattle.file_open.specs.Opened.{IsReason, IsOpened, IsWithheld};
-ghost use Rattle.file_scan.specs.Reading.{OfOpen, OfThisVersion, IsUnchangedWhere};
+ghost use Rattle.file_open.specs.Opened.{IsReason, IsOpened, IsWithheld, AreNamesOf, IsFaultless};
+ghost use Rattle.file_scan.specs.Reading.{OfThisVersion, IsUnchangedWhere, TellsCause, FindsFile};
 ghost use Rattle.file_schema.specs.Clean.{LeavesNoMore};
 
 use crate::book::{Reopened, open_rows};
@@ -33,9 +33,8 @@ fn read_outside<S: Alter, P: Progress>(
         (λ db. IfOk result (λ file. Holds db.trees (tables_of file))) }
     ensures version { IfOk result (λ file. file.shop.version ≡ this_version) }
     ensures limits { IfOk result IsFitFile }
-    ensures found { OfOpen S.Store connection.old connection.new
-        (λ db. OnOk result (IsReadable db)) }
-    ensures cause { OfOpen S.Store connection.old connection.new (λ db. IfErr result (IsCause db)) }
+    ensures found { FindsFile IsReadable S.Store connection.old connection.new result }
+    ensures cause { TellsCause IsCause S.Store connection.old connection.new result }
     ensures store { OfThisVersion S.Store connection.old connection.new
         (λ db. IfErr result (WhereClosed (IsTrue (state S.Store connection.old).in_transaction
         ⊎ IsStopped (state S.Store connection.old) (state S.Store connection.new)))) }
@@ -65,16 +64,13 @@ pub(crate) fn reopen<S: Alter, B: Book + Drop, P: Progress>(
     ensures opened { OfThisVersion S.Store connection.old connection.new
         (λ db. IfOk result (λ it. IsOpened db.trees it.head it.next_row (B.state it.book)
         (state S.Store connection.new))) }
-    ensures names { IfOk result
-        (λ it. (it.organizer ≡ it.head.organizer) × (it.event ≡ it.head.event)) }
+    ensures names { IfOk result (λ it. AreNamesOf it.head it.organizer it.event) }
     ensures version { IfOk result (λ it. it.head.version ≡ this_version) }
     ensures sound { IfOk result (λ it. IsSound (B.state it.book)) }
-    ensures found { OfOpen S.Store connection.old connection.new
-        (λ db. OnOk result (IsReadable db)) }
+    ensures found { FindsFile IsReadable S.Store connection.old connection.new result }
     ensures whole { OfThisVersion S.Store connection.old connection.new
-        (λ db. OnOk result ((error : OpenError) → IsReason db error → IsOfMachine error)) }
-    ensures cause { OfOpen S.Store connection.old connection.new
-        (λ db. IfErr result (IsReason db)) }
+        (λ db. OnOk result (IsFaultless db)) }
+    ensures cause { TellsCause IsReason S.Store connection.old connection.new result }
     ensures store { OfThisVersion S.Store connection.old connection.new
         (λ db. IfErr result (WhereClosed
         (IsWithheld db (state S.Store connection.old) (state S.Store connection.new)))) }

@@ -16,7 +16,8 @@ ghost use Rattle.file_scan.specs.Read.{AreTableRows};
 ghost use Rattle.file_rebuild.specs.declared.error.ArrangeError.TheVariants.{Order};
 ghost use Rattle.file_rebuild.specs.Arranged.{arranged, rows_in, told_by, ArePaired, AreReadInOrder};
 ghost use Rattle.file_meaning.specs.Typed.{AreBelowNext};
-ghost use Rattle.file_open.specs.Opened.{IsLeastIn, IsWhy, RowsRise};
+ghost use Rattle.file_open.specs.Opened.{IsLeastIn, RowsRise};
+ghost use Rattle.file_open.specs.Why.{IsWhy};
 
 use file_check::first_broken;
 use file_rebuild::{ArrangeError, Arranged, arrange};

@@ -1,7 +1,7 @@
 //! What the tables of an earlier version don't tell is supplied.
 
 ghost use Rattle.std.specs.Prelude.{◌≡◌, ◌++◌, map, IfOk};
-ghost use Rattle.file_scan.specs.Causes.{IsFitFile};
+ghost use Rattle.file_scan.specs.Fits.{IsFitFile};
 ghost use Rattle.file_scan.specs.Read.{tables_of};
 ghost use Rattle.file_open.specs.Supplied.{none_out, none_spent, lacking_exits, lacking_spents, supplied, AreLacking};
 

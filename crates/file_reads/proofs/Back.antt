@@ -152,7 +152,25 @@ methods_back (Some m) = by_flags m.get m.post m.patch m.delete
 -- ---- each row
 
 abbrev pub shop_in : Row → ShopRow
-shop_in r = record { version = number_in (column r 1); organizer = text_in (column r 2); event = text_in (column r 3); moment = number_in (column r 4); next = record { item = number_in (column r 5); variation = number_in (column r 6); quota = number_in (column r 7); voucher = number_in (column r 8); cart = number_in (column r 9); order = number_in (column r 10); position = number_in (column r 11); waiting = number_in (column r 12); list = number_in (column r 13); checkin = number_in (column r 14) }; next_token = number_in (column r 15) }
+shop_in r = record {
+  version = number_in (column r 1);
+  organizer = text_in (column r 2);
+  event = text_in (column r 3);
+  moment = number_in (column r 4);
+  next = record {
+    item = number_in (column r 5);
+    variation = number_in (column r 6);
+    quota = number_in (column r 7);
+    voucher = number_in (column r 8);
+    cart = number_in (column r 9);
+    order = number_in (column r 10);
+    position = number_in (column r 11);
+    waiting = number_in (column r 12);
+    list = number_in (column r 13);
+    checkin = number_in (column r 14);
+  };
+  next_token = number_in (column r 15);
+}
 
 pub shop_back : (w : ShopRow) → shop_in (shop_row w) ≡ w
 shop_back w = refl
@@ -188,7 +206,24 @@ pub quota_variation_back : (w : QuotaVariation) → quota_variation_in (quota_va
 quota_variation_back w = refl
 
 abbrev pub voucher_in : Row → VoucherRow
-voucher_in r = record { voucher = record { id = number_in (column r 0); code = text_in (column r 1); max_usages = number_in (column r 2); valid_until = maybe number_in (column r 3); block_quota = truth_in (column r 4); allow_ignore_quota = truth_in (column r 5); price_mode = mode_in (column r 6); value = maybe number_in (column r 7); item = maybe number_in (column r 8); variation = maybe number_in (column r 9); quota = maybe number_in (column r 10); tag = text_in (column r 11); comment = text_in (column r 12) }; redeemed = number_in (column r 13) }
+voucher_in r = record {
+  voucher = record {
+    id = number_in (column r 0);
+    code = text_in (column r 1);
+    max_usages = number_in (column r 2);
+    valid_until = maybe number_in (column r 3);
+    block_quota = truth_in (column r 4);
+    allow_ignore_quota = truth_in (column r 5);
+    price_mode = mode_in (column r 6);
+    value = maybe number_in (column r 7);
+    item = maybe number_in (column r 8);
+    variation = maybe number_in (column r 9);
+    quota = maybe number_in (column r 10);
+    tag = text_in (column r 11);
+    comment = text_in (column r 12);
+  };
+  redeemed = number_in (column r 13);
+}
 
 pub voucher_back : (w : VoucherRow) → voucher_in (voucher_row w) ≡ w
 voucher_back w = rw (maybe_number w.voucher.valid_until, truth_back w.voucher.block_quota, truth_back w.voucher.allow_ignore_quota, mode_back w.voucher.price_mode, maybe_number w.voucher.value, maybe_number w.voucher.item, maybe_number w.voucher.variation, maybe_number w.voucher.quota)

@@ -21,9 +21,15 @@ select_text = vouchers_text
 abbrev project : List Term
 project = col 1 0 ∷ col 1 2 ∷ col 1 3 ∷ col 1 4 ∷ col 1 5 ∷ col 1 6 ∷ col 1 7 ∷ col 1 8 ∷ col 1 9 ∷ col 1 10 ∷ col 1 11 ∷ col 1 12 ∷ col 1 13 ∷ col 1 14 ∷ []
 
+-- what the columns are called
+abbrev names : List (List ℕ)
+names =
+    codes "id" ∷ codes "code" ∷ codes "max_usages" ∷ codes "valid_until" ∷ codes "block_quota" ∷ codes "allow_ignore_quota" ∷ codes "price_mode"
+    ∷ codes "amount" ∷ codes "item_id" ∷ codes "variation_id" ∷ codes "quota_id" ∷ codes "tag" ∷ codes "comment" ∷ codes "redeemed" ∷ []
+
 -- over tables of a schema it is this SELECT, and runs alone
 abbrev Asks : Schema → Type 0
-Asks s = AsksForIn s (Select (plainly (over 8 [] project id_order)) (codes "id" ∷ codes "code" ∷ codes "max_usages" ∷ codes "valid_until" ∷ codes "block_quota" ∷ codes "allow_ignore_quota" ∷ codes "price_mode" ∷ codes "amount" ∷ codes "item_id" ∷ codes "variation_id" ∷ codes "quota_id" ∷ codes "tag" ∷ codes "comment" ∷ codes "redeemed" ∷ [])) select_text × (reads_listing s select_text ≡ false) × RunsAloneIn s select_text
+Asks s = AsksForIn s (Select (plainly (over 8 [] project id_order)) names) select_text × (reads_listing s select_text ≡ false) × RunsAloneIn s select_text
 
 asked : Throughout 1 Asks
 unfolding understood everything
@@ -40,7 +46,7 @@ reads_only = query_reads select_text asks
 pub select_since : IsSelectSince 1 select_text 8 []
 select_since s h =
     let it = since_held 1 Asks asked s h in
-    record { project = project; order = id_order; names = codes "id" ∷ codes "code" ∷ codes "max_usages" ∷ codes "valid_until" ∷ codes "block_quota" ∷ codes "allow_ignore_quota" ∷ codes "price_mode" ∷ codes "amount" ∷ codes "item_id" ∷ codes "variation_id" ∷ codes "quota_id" ∷ codes "tag" ∷ codes "comment" ∷ codes "redeemed" ∷ []; asks = it.0; unlisted = it.1; shows = λ params r. refl; reads = reads_only }
+    record { project = project; order = id_order; names = names; asks = it.0; unlisted = it.1; shows = λ params r. refl; reads = reads_only }
 
 pub select_is : IsSelect select_text 8 []
 select_is = select_since schema (since_this 1 (omega arith) schema refl)

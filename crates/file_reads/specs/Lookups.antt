@@ -32,12 +32,20 @@ AreAllThatPass rows test db found = (t : Tables) → Holds db t → IsPermutatio
 abbrev pub WhileOfShop : {S : Type 0} → Ghosts S → Transaction S → Transaction S → (State → State → Type 0) → Type 0
 WhileOfShop g old new Relates = HasCleanDisk (state g new.conn.now) → (state g old.conn.now).now.schema ≡ schema → Relates (state g old.conn.now) (state g new.conn.now)
 
+-- while the disk is clean, and over a shop's tables: what is answered are the rows of a table that pass the test, in some order
+abbrev pub FindsAll : {S A : Type 0} → Ghosts S → Transaction S → Transaction S → (Tables → List A) → (A → Bool) → Result (Vec A Global) RowError → Type 0
+FindsAll g old new rows test result = WhileOfShop g old new (λ a b. IfOk result (λ all. AreAllThatPass rows test a.now.trees all.items))
+
+-- while the disk is clean, and over a shop's tables: a refusal tells of damage in the table of this tree, or has no cause in the file
+abbrev pub TellsDamage : {S A T : Type 0} → Ghosts S → Transaction S → Transaction S → (A → Row) → (A → Type 0) → ℕ → Result T RowError → Type 0
+TellsDamage g old new as_row fits tree result = WhileOfShop g old new (λ a b. IfErr result (IsFor ⊥ (ShowsDamage as_row fits tree a.now.trees)))
+
 -- it finds the rows that pass the test in one table, or tells of damage in the table of this tree, and changes nothing
 pub record FindsRows {S A : Type 0} (g : Ghosts S) (old new : Transaction S) (rows : Tables → List A) (test : A → Bool) (as_row : A → Row) (fits : A → Type 0) (tree : ℕ) (result : Result (Vec A Global) RowError) : Type 0 where
   -- it still borrows that connection
   pub same : new.conn.ghost_name ≡ old.conn.ghost_name
-  pub found : WhileOfShop g old new (λ a b. IfOk result (λ all. AreAllThatPass rows test a.now.trees all.items))
-  pub refused : WhileOfShop g old new (λ a b. IfErr result (IsFor ⊥ (ShowsDamage as_row fits tree a.now.trees)))
+  pub found : FindsAll g old new rows test result
+  pub refused : TellsDamage g old new as_row fits tree result
   pub still : WhileOfShop g old new (λ a b. OnOk result (b.now ≡ a.now))
   pub kept : KeepsCommitInside g old.conn.now new.conn.now
   pub crash : LeavesNoMore g old.conn.now new.conn.now

@@ -1,14 +1,13 @@
 //! Rows are looked up by other columns than their number.
 
-ghost use Rattle.std.specs.Prelude.{◌≡◌, ◌==◌, IfOk, IfErr, OnOk};
+ghost use Rattle.std.specs.Prelude.{◌≡◌, ◌==◌, OnOk};
 ghost use Rattle.sqlite.specs.State.{KeepsCommit};
 ghost use Rattle.file_schema.specs.Clean.{WhileClean, LeavesNoMore};
 ghost use Rattle.file_rows.specs.Changes.{Changes};
 ghost use Rattle.file_rows.specs.Fit.{IsFitKept, IsFitToken};
 ghost use Rattle.file_rows.specs.Rows.{kept_row, token_row};
 ghost use Rattle.file_rows.specs.Written.{WhileInside};
-ghost use Rattle.file_reads.specs.Damage.{ShowsDamage, IsFor};
-ghost use Rattle.file_reads.specs.Lookups.{is_under, has_digest, AreAllThatPass, WhileOfShop, FindsRows};
+ghost use Rattle.file_reads.specs.Lookups.{is_under, has_digest, FindsAll, TellsDamage, FindsRows};
 ghost use Rattle.file_reads.specs.Select.{IsSelectByOwner};
 
 use crate::loaded::{Loaded, rows_of};
@@ -82,10 +81,8 @@ pub fn members_of<S: Alter, T: FindByOwner>(
     owner: u64,
 ) -> Result<Vec<T>, RowError>
     ensures same { tx.new.conn.ghost_name ≡ tx.old.conn.ghost_name }
-    ensures found { WhileOfShop S.Store tx.old tx.new (λ old _. IfOk result (λ all.
-        AreAllThatPass T.rows (λ r. T.owner_of r == owner) old.now.trees all.items)) }
-    ensures refused { WhileOfShop S.Store tx.old tx.new (λ old _.
-        IfErr result (IsFor ⊥ (ShowsDamage T.as_row T.fits T.tree old.now.trees))) }
+    ensures found { FindsAll S.Store tx.old tx.new T.rows (λ r. T.owner_of r == owner) result }
+    ensures refused { TellsDamage S.Store tx.old tx.new T.as_row T.fits T.tree result }
     ensures still { WhileInside S.Store tx.old tx.new (λ old new.
         OnOk result (Changes (λ t. t) old new)) }
     ensures kept { WhileClean S.Store tx.old.conn.now tx.new.conn.now KeepsCommit }

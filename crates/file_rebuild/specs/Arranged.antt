@@ -1,5 +1,5 @@
 -- The box office that the rows of a file tell.
-use Rattle.std.specs.Prelude.{◌≡◌, ℕ, Bool, true, false, List, [], ◌∷◌, map, Option, unwrap_or, IsPermutation}
+use Rattle.std.specs.Prelude.{◌≡◌, ℕ, Bool, true, false, List, [], ◌∷◌, map, IsPermutation}
 use Rattle.std.specs.List.{zip}
 use Rattle.base_sorted.specs.Tables.{AreInOrder}
 use Rattle.model_catalogue.specs.declared.rows.Quota.{Quota}
@@ -25,14 +25,13 @@ use Rattle.file_rows.specs.declared.rows.SpentRow.{SpentRow}
 use Rattle.file_rows.specs.declared.rows.VoucherHead.{VoucherHead}
 use Rattle.file_rows.specs.declared.rows.VoucherRow.{VoucherRow}
 use Rattle.file_rows.specs.declared.table_rows.CatalogueRows.{CatalogueRows}
-use Rattle.file_rows.specs.declared.table_rows.DoorRows.{DoorRows}
 use Rattle.file_rows.specs.declared.table_rows.OtherRows.{OtherRows}
 use Rattle.file_rows.specs.declared.table_rows.SaleRows.{SaleRows}
 use Rattle.file_rows.specs.declared.table_rows.TableRows.{TableRows}
 use Rattle.model_rules.specs.Rules.{File}
 use Rattle.file_meaning.specs.Links.{Link, all_links}
 use Rattle.file_meaning.specs.Rows.{OfficeRows, budget_in, budgets_of, discount_in, discounts_of, releases_of, voucher_of, position_of, usage_in}
-use Rattle.file_meaning.specs.Stands.{AreOrdered, AreRowsOf}
+use Rattle.file_meaning.specs.Stands.{AreOrdered}
 use Rattle.file_rebuild.specs.Members.{told, members_of}
 
 -- ---- rows as they were read
@@ -88,6 +87,10 @@ rows_in tables = record {
 
 -- ---- rows that stand in the same places, put together
 
+-- each row, joined with what stands in the same place
+abbrev pub beside : {A B C : Type 0} → (A → B → C) → List A → List B → List C
+beside join rows others = map (λ p. join p.0 p.1) (zip rows others)
+
 -- there is at least one
 abbrev pub is_any : List ℕ → Bool
 is_any [] = false
@@ -104,10 +107,6 @@ quota_having row items variations releases = record {
   variations = variations;
 }
 
--- each quota of its row, its items, its variations and its releases
-abbrev pub quotas_beside : List QuotaRow → List (List ℕ) → List (List ℕ) → List (List ℕ) → List Quota
-quotas_beside rows items variations releases = map (λ p. quota_having p.0.0.0 p.0.0.1 p.0.1 p.1) (zip (zip (zip rows items) variations) releases)
-
 -- a check-in list of its row, with these items
 abbrev pub list_having : ListRow → List ℕ → CheckinList
 list_having row items = record {
@@ -120,29 +119,17 @@ list_having row items = record {
   allow_entry_after_exit = row.allow_entry_after_exit;
 }
 
--- each check-in list of its row and its items
-abbrev pub lists_beside : List ListRow → List (List ℕ) → List CheckinList
-lists_beside rows items = map (λ p. list_having p.0 p.1) (zip rows items)
-
--- each voucher of its row and its budget
-abbrev pub vouchers_beside : List VoucherRow → List (Option ℕ) → List Voucher
-vouchers_beside rows budgets = map (λ p. voucher_of p.1 p.0.voucher) (zip rows budgets)
-
--- each order position of its row and its discount; without one it is 0
-abbrev pub positions_beside : List PositionRow → List (Option ℕ) → List OrderPos
-positions_beside rows discounts = map (λ p. position_of (unwrap_or p.1 0) p.0) (zip rows discounts)
-
 -- each quota's usage of its count and its exits
 abbrev pub usages_beside : List CountRow → List ExitRow → List QuotaCount
-usages_beside counts exits = map (λ p. usage_in p.0 p.1.exited) (zip counts exits)
+usages_beside counts exits = beside (λ c e. usage_in c e.exited) counts exits
 
 -- each voucher's count of its row and what is spent of it
 abbrev pub uses_beside : List VoucherRow → List SpentRow → List VoucherCount
-uses_beside rows spents = map (λ p. count_in p.0 p.1.spent) (zip rows spents)
+uses_beside rows spents = beside (λ r s. count_in r s.spent) rows spents
 
--- each voucher's count, where so much is spent of it
-abbrev pub counts_beside : List VoucherCount → List SpentRow → List VoucherCount
-counts_beside counts spents = map (λ (p : VoucherCount × SpentRow). record p.0 { spent = p.1.spent }) (zip counts spents)
+-- a voucher's count, where so much is spent of it
+abbrev pub spending : VoucherCount → SpentRow → VoucherCount
+spending count row = record count { spent = row.spent }
 
 -- ---- the office that rows tell
 
@@ -165,10 +152,6 @@ position_with discounts row = position_of (discount_in (told row.id discounts)) 
 -- the quotas that the tables of quotas tell
 abbrev pub quotas_arranged : CatalogueRows → List Quota
 quotas_arranged rows = map (quota_of (map item_link rows.quota_items.items) (map variation_link rows.quota_variations.items) (map release_link rows.releases.items)) rows.quotas.items
-
--- the check-in lists that the tables of the doors tell
-abbrev pub lists_arranged : DoorRows → List CheckinList
-lists_arranged rows = map (list_of (map list_link rows.list_items.items)) rows.checkin_lists.items
 
 -- the vouchers that these rows tell, with these budgets
 abbrev pub vouchers_arranged : List VoucherRow → List BudgetRow → List Voucher
@@ -211,10 +194,6 @@ AreLinksOfQuotas rows quotas =
     × IsPermutation (map variation_link rows.quota_variations.items) (all_links (λ q. q.id) (λ q. q.variations) quotas))
     × IsPermutation (map release_link rows.releases.items) (all_links (λ q. q.id) releases_of quotas)
 
--- the rows of items are those of these check-in lists, each once
-abbrev pub AreLinksOfLists : DoorRows → List CheckinList → Type 0
-AreLinksOfLists rows lists = IsPermutation (map list_link rows.list_items.items) (all_links (λ l. l.id) (λ l. l.limit_products) lists)
-
 -- the budgets are those of these vouchers, each once
 abbrev pub AreBudgetsOf : List BudgetRow → List Voucher → Type 0
 AreBudgetsOf budgets vouchers = IsPermutation (map budget_link budgets) (all_links (λ v. v.id) budgets_of vouchers)
@@ -222,10 +201,6 @@ AreBudgetsOf budgets vouchers = IsPermutation (map budget_link budgets) (all_lin
 -- the discounts are those of these order positions, each once
 abbrev pub AreDiscountsOf : List DiscountRow → List OrderPos → Type 0
 AreDiscountsOf discounts positions = IsPermutation (map discount_link discounts) (all_links (λ p. p.id) discounts_of positions)
-
--- the tables hold just the office that their rows tell
-abbrev pub AreTablesWhole : TableRows → Type 0
-AreTablesWhole tables = AreRowsOf (told_by (rows_in tables)) (rows_in tables)
 
 -- ---- when ids rise
 

@@ -1,5 +1,5 @@
 -- The members of rows, as links tell them.
-use Rattle.std.specs.Prelude.{◌≡◌, ℕ, ◌==◌, List, map, filter, flat_map, Option, option_map, option_to_list, IsPermutation}
+use Rattle.std.specs.Prelude.{◌≡◌, ℕ, ◌==◌, List, map, filter, flat_map, Option, option_map, option_to_list}
 use Rattle.std.specs.Global.{Vec}
 use Rattle.base_sorted.specs.Rising.{rising}
 use Rattle.base_sorted.specs.Tables.{row_at}
@@ -18,23 +18,16 @@ AreTold ids rows lists = map (λ v. v.items) lists ≡ map (λ id. told id rows)
 abbrev pub members_of : ℕ → List Link → List ℕ
 members_of owner rows = rising (told owner rows)
 
--- the members of each of these owners
-abbrev pub each_members : List ℕ → List Link → List (List ℕ)
-each_members owners rows = map (λ owner. members_of owner rows) owners
-
 -- the links of one owner to these members
 abbrev pub links_to : List ℕ → ℕ → List Link
 links_to members owner = map (λ id. record { owner = owner; member = id }) members
 
--- the links of these owners to their members
+-- The links of these owners to their members. They are just the given ones where each of these is of an owner, and none comes twice.
 abbrev pub links_of : List ℕ → List Link → List Link
 links_of owners rows = flat_map (λ owner. links_to (members_of owner rows) owner) owners
 
--- each link is of one of these owners, and none comes twice
-abbrev pub AreLinksOf : List ℕ → List Link → Type 0
-AreLinksOf owners rows = IsPermutation rows (links_of owners rows)
-
--- the links of these owners to the value that is told of each first, where one is told
+-- The links of these owners to the value that is told of each first, where one is told. They are just the given ones where each of these is
+-- of an owner, and no owner has two.
 abbrev pub values_of : List ℕ → List Link → List Link
 values_of owners rows = flat_map (λ owner. links_to (option_to_list (budget_in (told owner rows))) owner) owners
 
@@ -45,7 +38,3 @@ each_value key value ids rows = map (λ id. option_map value (row_at key id rows
 -- the links of the rows' keys to their values
 abbrev pub value_links : {V : Type 0} → (V → ℕ) → (V → ℕ) → List V → List Link
 value_links key value rows = map (λ r. record { owner = key r; member = value r }) rows
-
--- the key of each row is one of these ids, and none comes twice
-abbrev pub AreValuesOf : {V : Type 0} → (V → ℕ) → (V → ℕ) → List ℕ → List V → Type 0
-AreValuesOf key value ids rows = IsPermutation (value_links key value rows) (values_of ids (value_links key value rows))

@@ -2,7 +2,8 @@
 
 ghost use Rattle.std.specs.Prelude.{◌≡◌, ◌↔◌, IfOk, IfErr, OnOk, IsTrue};
 ghost use Rattle.model_rules.specs.Told.{file_of, lists_of};
-ghost use Rattle.file_rebuild.specs.Arranged.{arranged, AreTablesWhole, ArePaired, AreReadInOrder, OthersRise};
+ghost use Rattle.file_meaning.specs.Stands.{AreRowsOf};
+ghost use Rattle.file_rebuild.specs.Arranged.{arranged, rows_in, told_by, ArePaired, AreReadInOrder, OthersRise};
 ghost use Rattle.file_rebuild.specs.declared.error.ArrangeError.TheVariants.{Order};
 
 use crate::counts::counts_in;
@@ -46,7 +47,8 @@ pub fn arrange(alloc: Global, shop: &ShopRow, tables: TableRows) -> Result<Arran
     ensures told { IfOk result (λ a. file_of a.rows ≡ arranged shop.now tables) }
     ensures order { OnOk result (AreReadInOrder shop.now tables) }
     ensures refused { IfErr result (λ e. e ≡ Order → ¬ AreReadInOrder shop.now tables) }
-    ensures whole { IfOk result (λ a. IsTrue a.whole ↔ AreTablesWhole tables) }
+    ensures whole { IfOk result (λ a. IsTrue a.whole
+        ↔ AreRowsOf (told_by (rows_in tables)) (rows_in tables)) }
     ensures paired { IfOk result (λ a. IsTrue a.paired ↔ ArePaired tables) }
 {
     let TableRows {

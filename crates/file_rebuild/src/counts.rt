@@ -4,7 +4,7 @@ ghost use Rattle.std.specs.Prelude.{◌≡◌, ◌↔◌, map, IfOk, IfErr, OnOk
 ghost use Rattle.base_sorted.specs.Tables.{AreInOrder};
 ghost use Rattle.file_meaning.specs.Rows.{usage_in};
 ghost use Rattle.model_rules.specs.Tests.{TellsWhether};
-ghost use Rattle.file_rebuild.specs.Arranged.{count_in, usages_beside, uses_beside, counts_beside, AreExitsPaired, AreSpentsPaired, AreCountsPaired, CountsRise};
+ghost use Rattle.file_rebuild.specs.Arranged.{beside, count_in, spending, usages_beside, uses_beside, AreExitsPaired, AreSpentsPaired, AreCountsPaired, CountsRise};
 ghost use Rattle.file_rebuild.specs.declared.error.ArrangeError.TheVariants.{Order};
 
 use crate::error::ArrangeError;
@@ -109,7 +109,7 @@ fn uses_in(alloc: Global, vouchers: &[VoucherRow]) -> Result<Vec<VoucherCount>, 
 
 // The count, where so much is spent.
 fn count_with(parts: (VoucherCount, SpentRow)) -> VoucherCount
-    ensures { result ≡ record parts.0 { spent = parts.1.spent } }
+    ensures { result ≡ spending parts.0 parts.1 }
 {
     let (uses, spent) = parts;
     VoucherCount {
@@ -125,7 +125,7 @@ fn with_spents(
     uses: Vec<VoucherCount>,
     spents: Vec<SpentRow>,
 ) -> Result<Vec<VoucherCount>, AllocError>
-    ensures { IfOk result (λ all. all.items ≡ counts_beside uses.items spents.items) }
+    ensures { IfOk result (λ all. all.items ≡ beside spending uses.items spents.items) }
 {
     uses.into_iter()
         .zip(spents.into_iter())

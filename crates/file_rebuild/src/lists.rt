@@ -1,8 +1,9 @@
 //! Check-in lists with their items.
 
-ghost use Rattle.std.specs.Prelude.{◌≡◌, ◌↔◌, IfOk, IfErr, OnOk, IsTrue, map};
+ghost use Rattle.std.specs.Prelude.{◌≡◌, ◌↔◌, IfOk, IfErr, OnOk, IsTrue, IsPermutation, map};
 ghost use Rattle.base_sorted.specs.Tables.{AreInOrder};
-ghost use Rattle.file_rebuild.specs.Arranged.{list_having, lists_beside, lists_arranged, AreLinksOfLists};
+ghost use Rattle.file_meaning.specs.Links.{all_links};
+ghost use Rattle.file_rebuild.specs.Arranged.{beside, list_having, list_link, list_of};
 ghost use Rattle.file_rebuild.specs.declared.error.ArrangeError.TheVariants.{Order};
 
 use crate::error::ArrangeError;
@@ -49,7 +50,7 @@ fn joined(
     rows: Vec<ListRow>,
     items: Vec<Ids>,
 ) -> Result<Vec<CheckinList>, AllocError>
-    ensures { IfOk result (λ all. all.items ≡ lists_beside rows.items items.items) }
+    ensures { IfOk result (λ all. all.items ≡ beside list_having rows.items items.items) }
 {
     rows.into_iter()
         .zip(items.into_iter())
@@ -60,11 +61,14 @@ fn joined(
 /// What the doors have, with the items that links tell of check-in lists. Refusals: 6, and 63 where the lists' ids don't rise.
 pub(crate) fn doors_in(alloc: Global, rows: DoorRows) -> Result<DoorParts, ArrangeError>
     ensures checkins { IfOk result (λ d. d.checkins ≡ rows.checkins) }
-    ensures lists { IfOk result (λ d. d.lists.items ≡ lists_arranged rows) }
+    ensures lists { IfOk result (λ d. d.lists.items
+        ≡ map (list_of (map list_link rows.list_items.items)) rows.checkin_lists.items) }
     ensures order { OnOk result (AreInOrder (λ r. r.id) rows.checkin_lists.items) }
     ensures refused { IfErr result (λ e. e ≡ Order →
         ¬ AreInOrder (λ r. r.id) rows.checkin_lists.items) }
-    ensures whole { IfOk result (λ d. IsTrue d.whole ↔ AreLinksOfLists rows d.lists.items) }
+    ensures whole { IfOk result (λ d. IsTrue d.whole
+        ↔ IsPermutation (map list_link rows.list_items.items)
+        (all_links (λ l. l.id) (λ l. l.limit_products) d.lists.items)) }
 {
     let ids = ids_of(alloc, rows.checkin_lists.as_slice())?;
     if !rises(ids.as_slice()) {

@@ -1,10 +1,10 @@
 //! The members of rows, as links tell them.
 
-ghost use Rattle.std.specs.Prelude.{◌≡◌, ◌↔◌, ◌++◌, [], ◌∷◌, IfOk, OnOk, IsTrue, List, map, flat_map, length};
+ghost use Rattle.std.specs.Prelude.{◌≡◌, ◌↔◌, ◌++◌, [], ◌∷◌, IfOk, OnOk, IsTrue, IsPermutation, List, map, flat_map, length};
 ghost use Rattle.base_sorted.specs.Rising.{rising};
 ghost use Rattle.base_sorted.specs.Tables.{AreInOrder};
 ghost use Rattle.file_meaning.specs.Links.{Link};
-ghost use Rattle.file_rebuild.specs.Members.{each_members, AreTold, AreLinksOf};
+ghost use Rattle.file_rebuild.specs.Members.{members_of, links_of, AreTold};
 
 use crate::links::Linking;
 use base_sorted::{Ids, Row, place_of};
@@ -94,8 +94,10 @@ pub(crate) fn members_in<L: Linking>(
     links: &[L],
 ) -> Result<Members, AllocError>
     requires { AreInOrder (λ n. n) ids.now }
-    ensures each { IfOk result (λ m. m.each.items ≡ each_members ids.now (map L.link links.now)) }
-    ensures whole { IfOk result (λ m. IsTrue m.whole ↔ AreLinksOf ids.now (map L.link links.now)) }
+    ensures each { IfOk result (λ m. m.each.items
+        ≡ map (λ owner. members_of owner (map L.link links.now)) ids.now) }
+    ensures whole { let all = map L.link links.now in
+        IfOk result (λ m. IsTrue m.whole ↔ IsPermutation all (links_of ids.now all)) }
 {
     let told = told_in(alloc, ids, links)?;
     let each = each_sorted(alloc, told)?;

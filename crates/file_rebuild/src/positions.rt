@@ -2,7 +2,7 @@
 
 ghost use Rattle.std.specs.Prelude.{◌≡◌, ◌==◌, ◌↔◌, All, not, true, map, unwrap_or, IfOk, IfErr, OnOk, IsTrue};
 ghost use Rattle.file_meaning.specs.Rows.{position_of};
-ghost use Rattle.file_rebuild.specs.Arranged.{positions_arranged, positions_beside, AreDiscountsOf, PositionsRise};
+ghost use Rattle.file_rebuild.specs.Arranged.{beside, positions_arranged, AreDiscountsOf, PositionsRise};
 ghost use Rattle.file_rebuild.specs.declared.error.ArrangeError.TheVariants.{Order};
 
 use crate::error::ArrangeError;
@@ -51,7 +51,8 @@ fn joined(
     rows: Vec<PositionRow>,
     discounts: Vec<Option<Cents>>,
 ) -> Result<Vec<OrderPos>, AllocError>
-    ensures { IfOk result (λ all. all.items ≡ positions_beside rows.items discounts.items) }
+    ensures { IfOk result (λ all. all.items
+        ≡ beside (λ r discount. position_of (unwrap_or discount 0) r) rows.items discounts.items) }
 {
     rows.into_iter()
         .zip(discounts.into_iter())

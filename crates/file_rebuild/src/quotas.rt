@@ -1,8 +1,9 @@
 //! Quotas with their members.
 
 ghost use Rattle.std.specs.Prelude.{◌≡◌, ◌↔◌, IfOk, IfErr, OnOk, IsTrue, map};
+ghost use Rattle.std.specs.List.{zip};
 ghost use Rattle.base_sorted.specs.Tables.{AreInOrder};
-ghost use Rattle.file_rebuild.specs.Arranged.{is_any, quota_having, quotas_beside, quotas_arranged, AreLinksOfQuotas};
+ghost use Rattle.file_rebuild.specs.Arranged.{is_any, quota_having, quotas_arranged, AreLinksOfQuotas};
 ghost use Rattle.file_rebuild.specs.declared.error.ArrangeError.TheVariants.{Order};
 
 use crate::error::ArrangeError;
@@ -58,8 +59,8 @@ fn joined(
     variations: Vec<Ids>,
     releases: Vec<Ids>,
 ) -> Result<Vec<Quota>, AllocError>
-    ensures { IfOk result (λ all. all.items
-        ≡ quotas_beside rows.items items.items variations.items releases.items) }
+    ensures { IfOk result (λ all. all.items ≡ map (λ p. quota_having p.0.0.0 p.0.0.1 p.0.1 p.1)
+        (zip (zip (zip rows.items items.items) variations.items) releases.items)) }
 {
     rows.into_iter()
         .zip(items.into_iter())

@@ -1,8 +1,8 @@
 //! Amounts that stand in a table of their own, each under the id of the row that has it.
 
-ghost use Rattle.std.specs.Prelude.{◌≡◌, ◌↔◌, ℕ, count_by, is_some, option_map, IfOk, IsTrue};
+ghost use Rattle.std.specs.Prelude.{◌≡◌, ◌↔◌, ℕ, count_by, is_some, option_map, IfOk, IsTrue, IsPermutation};
 ghost use Rattle.base_sorted.specs.Tables.{AreInOrder, row_at};
-ghost use Rattle.file_rebuild.specs.Members.{each_value, AreValuesOf};
+ghost use Rattle.file_rebuild.specs.Members.{each_value, value_links, values_of};
 
 use base_sorted::{Row, place_of};
 use base_values::Cents;
@@ -86,8 +86,8 @@ pub(crate) fn values_in<V: Valued>(
     requires rows { AreInOrder V.Row.key rows.now }
     ensures each { IfOk result (λ v. v.each.items
         ≡ each_value V.Row.key V.value_of ids.now rows.now) }
-    ensures whole { IfOk result (λ v. IsTrue v.whole
-        ↔ AreValuesOf V.Row.key V.value_of ids.now rows.now) }
+    ensures whole { let links = value_links V.Row.key V.value_of rows.now in
+        IfOk result (λ v. IsTrue v.whole ↔ IsPermutation links (values_of ids.now links)) }
 {
     let each = each_value(alloc, ids, rows)?;
     let whole = are_so_many(each.as_slice(), rows.len());

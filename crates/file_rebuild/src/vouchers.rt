@@ -2,7 +2,7 @@
 
 ghost use Rattle.std.specs.Prelude.{◌≡◌, ◌↔◌, map, IfOk, IfErr, OnOk, IsTrue};
 ghost use Rattle.file_meaning.specs.Rows.{voucher_of};
-ghost use Rattle.file_rebuild.specs.Arranged.{vouchers_arranged, vouchers_beside, AreBudgetsOf, VouchersRise};
+ghost use Rattle.file_rebuild.specs.Arranged.{beside, vouchers_arranged, AreBudgetsOf, VouchersRise};
 ghost use Rattle.file_rebuild.specs.declared.error.ArrangeError.TheVariants.{Order};
 
 use crate::error::ArrangeError;
@@ -72,7 +72,8 @@ fn joined(
     rows: Vec<VoucherRow>,
     budgets: Vec<Option<Cents>>,
 ) -> Result<Vec<Voucher>, AllocError>
-    ensures { IfOk result (λ all. all.items ≡ vouchers_beside rows.items budgets.items) }
+    ensures { IfOk result (λ all. all.items
+        ≡ beside (λ r budget. voucher_of budget r.voucher) rows.items budgets.items) }
 {
     rows.into_iter()
         .zip(budgets.into_iter())

@@ -48,7 +48,8 @@ use Rattle.model_rules.specs.declared.rule.Rule.TheVariants as rule
 use Rattle.file_scan.specs.declared.file.FileTables.{FileTables}
 use Rattle.file_rows.specs.declared.table_rows.TableRows.{TableRows}
 use Rattle.file_scan.specs.Read.{HoldsFirst, HoldsSides, HoldsSums, HoldsRows, tables_of}
-use Rattle.file_scan.specs.Causes.{rows_at, LacksCatalogue, LacksSales, LacksDoors, LacksOthers, LacksSides, LacksSums, LacksTable, IsDamagedCatalogue, AreDamagedSales, AreDamagedDoors, AreDamagedOthers, AreDamagedSides, AreDamagedSums, HasTables, HasDamage, IsFitFile, IsReadable, IsReadableAs, ShowsBy, OfTheShop, HasNoOtherVersion, IsOneShop, IsCause}
+use Rattle.file_scan.specs.Causes.{rows_at, LacksCatalogue, LacksSales, LacksDoors, LacksOthers, LacksSides, LacksSums, LacksTable, IsDamagedCatalogue, AreDamagedSales, AreDamagedDoors, AreDamagedOthers, AreDamagedSides, AreDamagedSums, HasTables, HasDamage, IsReadable, IsReadableAs, ShowsBy, OfTheShop, HasNoOtherVersion, IsOneShop, IsCause}
+use Rattle.file_scan.specs.Fits.{IsFitFile}
 use Rattle.file_scan.specs.Lawful.{AreFit, AreFitAt, IsOfMachine}
 use Rattle.file_scan.proofs.CauseLemmas.{shows_rows, one_is_ours, version_told}
 use Rattle.file_scan.proofs.ReadLemmas.{one_shown, was_some}
@@ -72,7 +73,11 @@ HoldsOfSums db t = HoldsSums db t.budgets t.spents t.discounts
 
 -- those of the first are the same tables in each version
 first_of : (db : Trees) (t : Tables) → Holds db t → HoldsOfFirst db t
-first_of db t h = (h.0, (h.1.0, (h.1.1.0, (h.1.1.1.0, (h.1.1.1.1.0, (h.1.1.1.1.1.0, (h.1.1.1.1.1.1.0, (h.1.1.1.1.1.1.1.0, (h.1.1.1.1.1.1.1.1.0, (h.1.1.1.1.1.1.1.1.1.0, (h.1.1.1.1.1.1.1.1.1.1.0, (h.1.1.1.1.1.1.1.1.1.1.1.0, (h.1.1.1.1.1.1.1.1.1.1.1.1.0, (h.1.1.1.1.1.1.1.1.1.1.1.1.1.0, (h.1.1.1.1.1.1.1.1.1.1.1.1.1.1.0, (h.1.1.1.1.1.1.1.1.1.1.1.1.1.1.1.0, (h.1.1.1.1.1.1.1.1.1.1.1.1.1.1.1.1.0, tt)))))))))))))))))
+first_of db t h =
+    let sales = h.1.1.1.1.1.1 in
+    let doors = sales.1.1.1.1.1 in
+    let others = doors.1.1.1 in
+    (h.0, (h.1.0, (h.1.1.0, (h.1.1.1.0, (h.1.1.1.1.0, (h.1.1.1.1.1.0, (sales.0, (sales.1.0, (sales.1.1.0, (sales.1.1.1.0, (sales.1.1.1.1.0, (doors.0, (doors.1.0, (doors.1.1.0, (others.0, (others.1.0, (others.1.1.0, tt)))))))))))))))))
 
 sides_of : (db : Trees) (t : Tables) → Holds db t → HoldsOfSides db t
 sides_of db t h = record { releases = h.1.1.1.1.1.1.1.1.1.1.1.1.1.1.1.1.1.0; exits = h.1.1.1.1.1.1.1.1.1.1.1.1.1.1.1.1.1.1.0 }
@@ -82,10 +87,18 @@ sums_of db t h = record { budgets = h.1.1.1.1.1.1.1.1.1.1.1.1.1.1.1.1.1.1.1.0; s
 
 -- those of the second are the first tables in the third
 second_of : (db : Trees) (t : Tables) → HoldsOfFirst db t → HoldsOfSides db t → HoldParts schema db (take 19 (parts t))
-second_of db t h k = (h.0, (h.1.0, (h.1.1.0, (h.1.1.1.0, (h.1.1.1.1.0, (h.1.1.1.1.1.0, (h.1.1.1.1.1.1.0, (h.1.1.1.1.1.1.1.0, (h.1.1.1.1.1.1.1.1.0, (h.1.1.1.1.1.1.1.1.1.0, (h.1.1.1.1.1.1.1.1.1.1.0, (h.1.1.1.1.1.1.1.1.1.1.1.0, (h.1.1.1.1.1.1.1.1.1.1.1.1.0, (h.1.1.1.1.1.1.1.1.1.1.1.1.1.0, (h.1.1.1.1.1.1.1.1.1.1.1.1.1.1.0, (h.1.1.1.1.1.1.1.1.1.1.1.1.1.1.1.0, (h.1.1.1.1.1.1.1.1.1.1.1.1.1.1.1.1.0, (k.releases, (k.exits, tt)))))))))))))))))))
+second_of db t h k =
+    let sales = h.1.1.1.1.1.1 in
+    let doors = sales.1.1.1.1.1 in
+    let others = doors.1.1.1 in
+    (h.0, (h.1.0, (h.1.1.0, (h.1.1.1.0, (h.1.1.1.1.0, (h.1.1.1.1.1.0, (sales.0, (sales.1.0, (sales.1.1.0, (sales.1.1.1.0, (sales.1.1.1.1.0, (doors.0, (doors.1.0, (doors.1.1.0, (others.0, (others.1.0, (others.1.1.0, (k.releases, (k.exits, tt)))))))))))))))))))
 
 all_of : (db : Trees) (t : Tables) → HoldsOfFirst db t → HoldsOfSides db t → HoldsOfSums db t → Holds db t
-all_of db t h k m = (h.0, (h.1.0, (h.1.1.0, (h.1.1.1.0, (h.1.1.1.1.0, (h.1.1.1.1.1.0, (h.1.1.1.1.1.1.0, (h.1.1.1.1.1.1.1.0, (h.1.1.1.1.1.1.1.1.0, (h.1.1.1.1.1.1.1.1.1.0, (h.1.1.1.1.1.1.1.1.1.1.0, (h.1.1.1.1.1.1.1.1.1.1.1.0, (h.1.1.1.1.1.1.1.1.1.1.1.1.0, (h.1.1.1.1.1.1.1.1.1.1.1.1.1.0, (h.1.1.1.1.1.1.1.1.1.1.1.1.1.1.0, (h.1.1.1.1.1.1.1.1.1.1.1.1.1.1.1.0, (h.1.1.1.1.1.1.1.1.1.1.1.1.1.1.1.1.0, (k.releases, (k.exits, (m.budgets, (m.spents, (m.discounts, tt))))))))))))))))))))))
+all_of db t h k m =
+    let sales = h.1.1.1.1.1.1 in
+    let doors = sales.1.1.1.1.1 in
+    let others = doors.1.1.1 in
+    (h.0, (h.1.0, (h.1.1.0, (h.1.1.1.0, (h.1.1.1.1.0, (h.1.1.1.1.1.0, (sales.0, (sales.1.0, (sales.1.1.0, (sales.1.1.1.0, (sales.1.1.1.1.0, (doors.0, (doors.1.0, (doors.1.1.0, (others.0, (others.1.0, (others.1.1.0, (k.releases, (k.exits, (m.budgets, (m.spents, (m.discounts, tt))))))))))))))))))))))
 
 whole_catalogue : {own : ℕ} (t : Tables) (db : Trees) → HoldsOfFirst db t → AreFitAt own t → IsDamagedCatalogue db → ⊥
 whole_catalogue t db held fit (inl bad) = undamaged item_row IsFitItem t.items (rows_at db 1) fit.items held.1.0 bad

@@ -4,7 +4,8 @@ use Rattle.sqlite_trees.specs.Tree.{Trees}
 use Rattle.sqlite.proofs.Callers.{one_permutation}
 use Rattle.file_rows.specs.Rows.{shop_row, item_row, variation_row, quota_row, quota_item_row, quota_variation_row, voucher_row, cart_row, order_row, position_row, waiting_row, list_row, list_item_row, checkin_row, count_row, token_row, kept_row, release_row, exit_row, budget_row, spent_row, discount_row}
 use Rattle.file_rows.specs.Tables.{Tables, Holds}
-use Rattle.file_reads.proofs.Back.{alike, shop_in, shop_back, item_in, item_back, variation_in, variation_back, quota_in, quota_back, quota_item_in, quota_item_back, quota_variation_in, quota_variation_back, voucher_in, voucher_back, cart_in, cart_back, order_in, order_back, position_in, position_back, waiting_in, waiting_back, list_in, list_back, list_item_in, list_item_back, checkin_in, checkin_back, count_in, count_back, token_in, token_back, kept_in, kept_back, release_in, release_back, exit_in, exit_back, budget_in, budget_back, spent_in, spent_back, discount_in, discount_back}
+use Rattle.file_reads.proofs.Back.{alike, shop_in, shop_back, item_in, item_back, variation_in, variation_back, quota_in, quota_back, quota_item_in, quota_item_back, quota_variation_in, quota_variation_back, voucher_in, voucher_back, cart_in, cart_back, order_in, order_back, position_in, position_back, waiting_in, waiting_back}
+use Rattle.file_reads.proofs.Back.{list_in, list_back, list_item_in, list_item_back, checkin_in, checkin_back, count_in, count_back, token_in, token_back, kept_in, kept_back, release_in, release_back, exit_in, exit_back, budget_in, budget_back, spent_in, spent_back, discount_in, discount_back}
 use Rattle.file_scan.specs.declared.file.FileTables.{FileTables}
 use Rattle.file_scan.specs.Read.{IsFileOf, tables_of}
 

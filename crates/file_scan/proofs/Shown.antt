@@ -26,6 +26,12 @@ where_then (Err Foreign) P Q h k = tt
 where_then (Err Damaged) P Q h k = k h
 where_then (Err Store) P Q h k = tt
 
+pub damaged_then : (e : RowError) (P Q : Type 0) → WhereDamaged e P → (P → Q) → WhereDamaged e Q
+damaged_then Memory P Q h k = tt
+damaged_then Foreign P Q h k = tt
+damaged_then Damaged P Q h k = k h
+damaged_then Store P Q h k = tt
+
 pub was_read : {A : Type 0} (r : Result A RowError) (a : A) (P : Type 0) → r ≡ Ok a → WhereShown r P → P
 was_read r a P is h = subst (λ s. WhereShown s P) is h
 

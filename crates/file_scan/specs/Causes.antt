@@ -1,5 +1,5 @@
 -- Why a file isn't opened, and what holds of one whose rows were all read.
-use Rattle.std.specs.Prelude.{◌≡◌, ◌≢◌, ◌≤◌, ◌⊎◌, ℕ, ℤ, pos, List, [], ◌∷◌, map, All, Ok}
+use Rattle.std.specs.Prelude.{◌≡◌, ◌≢◌, ◌≤◌, ◌⊎◌, ℕ, ℤ, pos, List, [], ◌∷◌, map, Ok}
 use Rattle.sqlite_value.specs.declared.value.Value.TheVariants.{Int}
 use Rattle.sqlite_value.specs.Order.{Row, column}
 use Rattle.sqlite_trees.specs.Tree.{Trees}
@@ -21,12 +21,6 @@ use Rattle.file_reads.specs.Texts.{shop_text, items_text, variations_text, quota
 use Rattle.model_rules.specs.declared.rule.Rule.TheVariants as rule
 use Rattle.file_scan.specs.declared.error.OpenError.{OpenError}
 use Rattle.file_scan.specs.declared.error.OpenError.TheVariants.{Memory, NotAShop, Version, Damaged, Store}
-use Rattle.file_scan.specs.declared.file.FileTables.{FileTables}
-use Rattle.file_rows.specs.declared.table_rows.CatalogueRows.{CatalogueRows}
-use Rattle.file_rows.specs.declared.table_rows.SaleRows.{SaleRows}
-use Rattle.file_rows.specs.declared.table_rows.DoorRows.{DoorRows}
-use Rattle.file_rows.specs.declared.table_rows.OtherRows.{OtherRows}
-use Rattle.file_rows.specs.declared.table_rows.TableRows.{TableRows}
 
 -- ---- the file lacks one of these tables, or one of its columns
 
@@ -140,45 +134,6 @@ HasDamage own db = HasFirstDamage db ⊎ (((2 ≤ own) × AreDamagedSides db) �
 pub record HasNextIds (shop : ShopRow) : Type 0 where
   pub ids : AllNextIds shop.next
   pub token : IsNextId last_id shop.next_token
-
--- the values of items, variations and quotas are within their limits
-pub record IsFitCatalogue (rows : CatalogueRows) : Type 0 where
-  pub items : All IsFitItem rows.items.items
-  pub variations : All IsFitVariation rows.variations.items
-  pub quotas : All IsFitQuota rows.quotas.items
-
--- the values of vouchers, cart positions, orders, order positions and the waiting list are within their limits, and so are budgets and discounts
-pub record AreFitSales (rows : SaleRows) : Type 0 where
-  pub vouchers : All IsFitVoucher rows.vouchers.items
-  pub carts : All IsFitCart rows.carts.items
-  pub orders : All IsFitOrder rows.orders.items
-  pub positions : All IsFitPosition rows.positions.items
-  pub waiting : All IsFitWaiting rows.waiting.items
-  pub budgets : All IsFitBudget rows.budgets.items
-  pub discounts : All IsFitDiscount rows.discounts.items
-
--- the values of check-in lists and check-ins are within their limits
-pub record AreFitDoors (rows : DoorRows) : Type 0 where
-  pub checkin_lists : All IsFitList rows.checkin_lists.items
-  pub checkins : All IsFitCheckin rows.checkins.items
-
--- the values of tokens and kept answers are within their limits
-pub record AreFitOthers (rows : OtherRows) : Type 0 where
-  pub tokens : All IsFitToken rows.tokens.items
-  pub kept : All IsFitKept rows.kept.items
-
--- the values of all tables beside the shop's own are within their limits
-pub record AreFitTables (rows : TableRows) : Type 0 where
-  pub catalogue : IsFitCatalogue rows.catalogue
-  pub sales : AreFitSales rows.sales
-  pub doors : AreFitDoors rows.doors
-  pub others : AreFitOthers rows.others
-
--- the values of all tables are within their limits, and the shop's next ids are in range
-pub record IsFitFile (file : FileTables) : Type 0 where
-  pub shop : IsFitShop file.shop
-  pub ids : HasNextIds file.shop
-  pub tables : AreFitTables file.tables
 
 -- ---- why a file isn't opened
 

@@ -3,6 +3,7 @@ pub mod Rests
 pub mod Stopped
 pub mod Read
 pub mod Causes
+pub mod Fits
 pub mod Lawful
 pub mod Took
 pub mod Reading

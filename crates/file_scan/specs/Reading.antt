@@ -1,5 +1,5 @@
 -- What reading a file answers, by what an open connection to it showed.
-use Rattle.std.specs.Prelude.{◌≡◌, ◌⊎◌, ℕ, List, map, IsPermutation, Result, IfOk, IfErr}
+use Rattle.std.specs.Prelude.{◌≡◌, ◌⊎◌, ℕ, List, map, IsPermutation, Result, IfOk, IfErr, OnOk}
 use Rattle.sqlite_value.specs.Order.{Row}
 use Rattle.sqlite_trees.specs.Tree.{Trees}
 use Rattle.sqlite_trees.specs.declared.store.Store.{Ghosts}
@@ -14,10 +14,10 @@ use Rattle.file_rows.specs.declared.table_rows.TableRows.{TableRows}
 use Rattle.file_reads.specs.Damage.{IsFor, IsDamaged}
 use Rattle.file_reads.specs.Since.{IsSince}
 use Rattle.file_reads.specs.Texts.{shop_text}
-use Rattle.file_scan.specs.Rests.{IsOpenAt, WhereShown}
-use Rattle.file_scan.specs.Stopped.{IsStopped}
+use Rattle.file_scan.specs.Rests.{IsOpenAt, OnlyReads, WhereShown}
+use Rattle.file_scan.specs.Stopped.{IsStopped, WhereStopped}
 use Rattle.file_scan.specs.Read.{HoldsFirst, HoldsSides, HoldsSums}
-use Rattle.file_scan.specs.Causes.{rows_at, ShowsBy, HasNoOtherVersion, HasTables, HasDamage, HasFirst, HasSides, HasSums, LacksFirst, LacksSides, LacksSums, HasFirstDamage, AreDamagedSides, AreDamagedSums}
+use Rattle.file_scan.specs.Causes.{rows_at, ShowsBy, HasNoOtherVersion, HasTables, HasDamage}
 
 -- this holds of what an open connection showed, if until now the disk returned what was written
 abbrev pub OfOpen : {S : Type 0} → Ghosts S → Held S → Held S → (Database → Type 0) → Type 0
@@ -51,6 +51,14 @@ FindsTables has g old new result = OfOpen g old new (λ db. WhereShown result (h
 abbrev pub RefusesFor : {S A : Type 0} → (Schema → Type 0) → ℕ → (Trees → Type 0) → Ghosts S → Held S → Held S → Result A RowError → Type 0
 RefusesFor lacks since is_damaged g old new result = OfOpen g old new (λ db. IfErr result (IsFor (lacks db.schema) (IsSince since db.schema → is_damaged db.trees)))
 
+-- a refusal is told of what an open connection showed for this reason
+abbrev pub TellsCause : {S A E : Type 0} → (Database → E → Type 0) → Ghosts S → Held S → Held S → Result A E → Type 0
+TellsCause Why g old new result = OfOpen g old new (λ db. IfErr result (Why db))
+
+-- where nothing is refused, this holds of what an open connection showed
+abbrev pub FindsFile : {S A E : Type 0} → (Database → Type 0) → Ghosts S → Held S → Held S → Result A E → Type 0
+FindsFile Holds g old new result = OfOpen g old new (λ db. OnOk result (Holds db))
+
 -- ---- one table
 
 -- the trees show these rows of a table, in some order
@@ -61,11 +69,29 @@ HoldsTable as_row tree trees rows = IsPermutation (map as_row rows) (rows_at tre
 abbrev pub IsDamagedTable : {T : Type 0} → (T → Row) → (T → Type 0) → ℕ → Trees → Type 0
 IsDamagedTable as_row fits tree trees = IsDamaged as_row fits (rows_at trees tree)
 
--- ---- two after another
+-- ---- tables one after another
 
--- the first holds these rows, and the second those
-abbrev pub HoldsBoth : {A B : Type 0} → (Trees → A → Type 0) → (Trees → B → Type 0) → Trees → A × B → Type 0
-HoldsBoth first second trees both = first trees both.0 × second trees both.1
+-- What a call tells that reads tables which files have since this version: the rows, which are in the trees so and whose values fit; that a file
+-- has these tables, or lacks one; and that a row is damaged.
+pub record ReadsTables {S A : Type 0} (since : ℕ) (is_in : Trees → A → Type 0) (fits : A → Type 0) (has lacks : Schema → Type 0) (is_damaged : Trees → Type 0) (g : Ghosts S) (old new : Held S) (result : Result A RowError) : Type 0 where
+  -- rows that are answered are those of the file
+  pub loaded : Loads since is_in g old new result
+  -- their values are within their limits
+  pub limits : IfOk result fits
+  -- where rows were shown the file has the tables
+  pub found : FindsTables has g old new result
+  -- 60 and 62 are told for their causes
+  pub refused : RefusesFor lacks since is_damaged g old new result
+  -- 63 is told only where the store stops
+  pub store : StopsAs WhereStopped since g old new result
+  -- where rows were shown nothing of the connection has changed
+  pub same : IsUnchangedWhere (WhereShown result) g old new
+  -- the connection is only read
+  pub only : OnlyReads g old new
+
+-- this holds of the first of two, and that of the second
+abbrev pub OfBoth : {A B : Type 0} → (A → Type 0) → (B → Type 0) → A × B → Type 0
+OfBoth first second both = first both.0 × second both.1
 
 -- both hold of it
 abbrev pub Both : {T : Type 0} → (T → Type 0) → (T → Type 0) → T → Type 0
@@ -75,7 +101,7 @@ Both first second it = first it × second it
 abbrev pub Either : {T : Type 0} → (T → Type 0) → (T → Type 0) → T → Type 0
 Either first second it = first it ⊎ second it
 
--- ---- the tables of the first two versions, and of all three
+-- ---- the rows of the tables of the first two versions, and of all three
 
 -- the trees show the rows of the tables of the first two versions
 abbrev pub HoldsTwo : Trees → TableRows → Type 0
@@ -85,23 +111,7 @@ HoldsTwo trees rows = HoldsFirst trees rows × HoldsSides trees rows.catalogue.r
 abbrev pub HoldsThree : Trees → TableRows → Type 0
 HoldsThree trees rows = HoldsFirst trees rows × (HoldsSides trees rows.catalogue.releases.items rows.others.exits.items × HoldsSums trees rows.sales.budgets.items rows.others.spents.items rows.sales.discounts.items)
 
--- the tables of all three versions are there with their columns
-abbrev pub HasThree : Schema → Type 0
-HasThree = Both HasFirst (Both HasSides HasSums)
-
--- one of them isn't
-abbrev pub LacksOfThree : Schema → Type 0
-LacksOfThree = Either LacksFirst (Either LacksSides LacksSums)
-
--- a row of one of them is of no value within its limits
-abbrev pub IsDamagedOfThree : Trees → Type 0
-IsDamagedOfThree = Either HasFirstDamage (Either AreDamagedSides AreDamagedSums)
-
 -- ---- the table `shop`
-
--- these are its rows, and they have no other version than this one
-abbrev pub ShowsShop : ℕ → Database → List Row → Type 0
-ShowsShop own db rows = ShowsBy shop_text db rows × HasNoOtherVersion own rows
 
 -- this holds of each file with these rows of the shop and all tables of this version
 abbrev pub OfShop : ℕ → List Row → (Database → Type 0) → Type 0

@@ -12,8 +12,9 @@ ghost use Rattle.file_reads.specs.Texts.{shop_text};
 ghost use Rattle.file_scan.specs.Rests.{OnlyReads};
 ghost use Rattle.file_scan.specs.Stopped.{IsStopped, WhereClosed};
 ghost use Rattle.file_scan.specs.Read.{HoldsRows, tables_of};
-ghost use Rattle.file_scan.specs.Causes.{LacksTable, HasTables, AreFitTables, IsFitFile, IsReadable, IsReadableAs, ShowsBy, OfTheShop, HasNoOtherVersion, IsCause, IsCauseAs};
-ghost use Rattle.file_scan.specs.Reading.{OfOpen, OfVersion, OfThisVersion, IsUnchangedWhere, StopsAs, ShowsShop, OfShop, HasDamageSince};
+ghost use Rattle.file_scan.specs.Causes.{LacksTable, HasTables, IsReadable, IsReadableAs, ShowsBy, OfTheShop, HasNoOtherVersion, IsCause, IsCauseAs};
+ghost use Rattle.file_scan.specs.Fits.{AreFitTables, IsFitFile};
+ghost use Rattle.file_scan.specs.Reading.{OfOpen, OfVersion, OfThisVersion, IsUnchangedWhere, StopsAs, TellsCause, FindsFile, OfShop, HasDamageSince};
 
 use crate::error::OpenError;
 use crate::head::{read_shop, shop_rows, test_version};
@@ -84,8 +85,9 @@ fn read_head<S: Alter>(conn: &mut Connection<S>, own: u64) -> Result<Vec<Row>, O
     requires outside { conn.old.in_transaction ≡ false }
     requires version { own ≤ this_version }
     ensures found { OfOpen S.Store conn.old conn.new
-        (λ db. IfOk result (λ rows. ShowsShop own db rows.items)) }
-    ensures cause { OfOpen S.Store conn.old conn.new (λ db. IfErr result (IsCauseAs own db)) }
+        (λ db. IfOk result
+        (λ rows. ShowsBy shop_text db rows.items × HasNoOtherVersion own rows.items)) }
+    ensures cause { TellsCause (IsCauseAs own) S.Store conn.old conn.new result }
     ensures store { StopsAs WhereClosed 1 S.Store conn.old conn.new result }
     ensures same { IsUnchangedWhere (OnOk result) S.Store conn.old conn.new }
     ensures only { OnlyReads S.Store conn.old conn.new }
@@ -112,7 +114,7 @@ fn read_all<S: Alter, P: Progress>(
     ensures found { OfOpen S.Store conn.old conn.new (λ db. IfOk result
         (λ read. ShowsBy shop_text db read.0.items × HasNoOtherVersion own read.0.items
         × HasTables own db.schema × (read.1 ≡ None → HasDamageSince own db))) }
-    ensures cause { OfOpen S.Store conn.old conn.new (λ db. IfErr result (IsCauseAs own db)) }
+    ensures cause { TellsCause (IsCauseAs own) S.Store conn.old conn.new result }
     ensures store { StopsAs WhereClosed own S.Store conn.old conn.new result }
     ensures same { IsUnchangedWhere (OnOk result) S.Store conn.old conn.new }
     ensures only { OnlyReads S.Store conn.old conn.new }
@@ -165,8 +167,8 @@ pub fn read_file_of<S: Alter, P: Progress>(
         (λ db. IfOk result (λ file. HoldsAt own db.trees (tables_of file))) }
     ensures version { IfOk result (λ file. file.shop.version ≡ own) }
     ensures limits { IfOk result IsFitFile }
-    ensures found { OfOpen S.Store conn.old conn.new (λ db. OnOk result (IsReadableAs own db)) }
-    ensures cause { OfOpen S.Store conn.old conn.new (λ db. IfErr result (IsCauseAs own db)) }
+    ensures found { FindsFile (IsReadableAs own) S.Store conn.old conn.new result }
+    ensures cause { TellsCause (IsCauseAs own) S.Store conn.old conn.new result }
     ensures store { StopsAs WhereClosed own S.Store conn.old conn.new result }
     ensures same { IsUnchangedWhere (OnOk result) S.Store conn.old conn.new }
     ensures only { OnlyReads S.Store conn.old conn.new }
@@ -191,8 +193,8 @@ pub fn read_file<S: Alter, P: Progress>(
         (λ db. IfOk result (λ file. Holds db.trees (tables_of file))) }
     ensures version { IfOk result (λ file. file.shop.version ≡ this_version) }
     ensures limits { IfOk result IsFitFile }
-    ensures found { OfOpen S.Store conn.old conn.new (λ db. OnOk result (IsReadable db)) }
-    ensures cause { OfOpen S.Store conn.old conn.new (λ db. IfErr result (IsCause db)) }
+    ensures found { FindsFile IsReadable S.Store conn.old conn.new result }
+    ensures cause { TellsCause IsCause S.Store conn.old conn.new result }
     ensures store { OfThisVersion S.Store conn.old conn.new (λ _. IfErr result
         (WhereClosed (IsStopped (state S.Store conn.old) (state S.Store conn.new)))) }
     ensures same { IsUnchangedWhere (OnOk result) S.Store conn.old conn.new }

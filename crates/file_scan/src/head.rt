@@ -13,7 +13,7 @@ ghost use Rattle.file_reads.specs.Texts.{shop_text};
 ghost use Rattle.file_scan.specs.Rests.{OnlyReads};
 ghost use Rattle.file_scan.specs.Stopped.{WhereClosed, WhereStopped};
 ghost use Rattle.file_scan.specs.Causes.{HasNextIds, ShowsBy, HasNoOtherVersion, IsCauseAs};
-ghost use Rattle.file_scan.specs.Reading.{OfOpen, IsUnchangedWhere, StopsAs, OfShop};
+ghost use Rattle.file_scan.specs.Reading.{OfOpen, IsUnchangedWhere, StopsAs, TellsCause, OfShop};
 
 use crate::error::OpenError;
 use crate::ids::has_next_ids;
@@ -30,8 +30,8 @@ pub(crate) fn shop_rows<S: Alter>(conn: &mut Connection<S>) -> Result<Vec<Row>, 
     requires { conn.old.in_transaction ≡ false }
     ensures shown { OfOpen S.Store conn.old conn.new
         (λ db. IfOk result (λ rows. ShowsBy shop_text db rows.items)) }
-    ensures refused { OfOpen S.Store conn.old conn.new
-        (λ db. IfErr result (IsFor (HasNoMeaning db.schema shop_text) ⊥)) }
+    ensures refused { TellsCause (λ db. IsFor (HasNoMeaning db.schema shop_text) ⊥)
+        S.Store conn.old conn.new result }
     ensures store { StopsAs WhereStopped 1 S.Store conn.old conn.new result }
     ensures same { IsUnchangedWhere (OnOk result) S.Store conn.old conn.new }
     ensures only { OnlyReads S.Store conn.old conn.new }

@@ -3,11 +3,10 @@
 ghost use Rattle.std.specs.Prelude.{◌≡◌, ◌≤◌, ⊤, [], false, All, IfOk};
 ghost use Rattle.sqlite_trees.specs.Tree.{Trees};
 ghost use Rattle.file_rows.specs.Fit.{IsFitBudget, IsFitDiscount};
-ghost use Rattle.file_scan.specs.Rests.{OnlyReads, WhereShown};
-ghost use Rattle.file_scan.specs.Stopped.{WhereStopped};
-ghost use Rattle.file_scan.specs.Causes.{IsFitCatalogue, HasCatalogue, LacksCatalogue, IsDamagedCatalogue, AreFitSales, HasSales, LacksSales, AreDamagedSales, AreFitDoors, HasDoors, LacksDoors, AreDamagedDoors, AreFitOthers, HasOthers, LacksOthers, AreDamagedOthers, AreFitTables, HasFirst, LacksFirst, HasFirstDamage, HasSides, LacksSides, AreDamagedSides, HasSums, LacksSums, AreDamagedSums, HasTables, LacksTable, HasDamage};
+ghost use Rattle.file_scan.specs.Causes.{HasCatalogue, LacksCatalogue, IsDamagedCatalogue, HasSales, LacksSales, AreDamagedSales, HasDoors, LacksDoors, AreDamagedDoors, HasOthers, LacksOthers, AreDamagedOthers, HasFirst, LacksFirst, HasFirstDamage, HasSides, LacksSides, AreDamagedSides, HasSums, LacksSums, AreDamagedSums, HasTables, LacksTable, HasDamage};
+ghost use Rattle.file_scan.specs.Fits.{IsFitCatalogue, AreFitSales, AreFitDoors, AreFitOthers, AreFitTables};
 ghost use Rattle.file_scan.specs.Read.{HoldsCatalogue, HoldsSales, HoldsDoors, HoldsOthers, HoldsFirst, HoldsSides, HoldsSums, HoldsRows, HasNoSides, HasNoSums};
-ghost use Rattle.file_scan.specs.Reading.{IsUnchangedWhere, StopsAs, Loads, FindsTables, RefusesFor, Both, Either, HoldsTwo, HoldsThree, HasThree, LacksOfThree, IsDamagedOfThree};
+ghost use Rattle.file_scan.specs.Reading.{ReadsTables, Both, Either, HoldsTwo, HoldsThree};
 
 use crate::progress::Progress;
 use crate::whole::{Whole, read_both};
@@ -301,14 +300,9 @@ fn read_first<S: Alter, P: Progress>(
     progress: &mut P,
 ) -> Result<TableRows, RowError>
     requires { conn.old.in_transaction ≡ false }
-    ensures loaded { Loads 1 HoldsFirst S.Store conn.old conn.new result }
+    ensures reads { ReadsTables 1 HoldsFirst AreFitTables HasFirst LacksFirst HasFirstDamage
+        S.Store conn.old conn.new result }
     ensures none { IfOk result (λ rows. HasNoSides rows × HasNoSums rows) }
-    ensures limits { IfOk result AreFitTables }
-    ensures found { FindsTables HasFirst S.Store conn.old conn.new result }
-    ensures refused { RefusesFor LacksFirst 1 HasFirstDamage S.Store conn.old conn.new result }
-    ensures store { StopsAs WhereStopped 1 S.Store conn.old conn.new result }
-    ensures same { IsUnchangedWhere (WhereShown result) S.Store conn.old conn.new }
-    ensures only { OnlyReads S.Store conn.old conn.new }
 {
     match TableRows::read(alloc, conn, progress) {
         Ok(tables) => Ok(with_later(tables, SideRows::none(alloc), SumRows::none(alloc))),
@@ -323,15 +317,10 @@ fn read_second<S: Alter, P: Progress>(
     progress: &mut P,
 ) -> Result<TableRows, RowError>
     requires { conn.old.in_transaction ≡ false }
-    ensures loaded { Loads 2 HoldsTwo S.Store conn.old conn.new result }
+    ensures reads { ReadsTables 2 HoldsTwo AreFitTables (Both HasFirst HasSides)
+        (Either LacksFirst LacksSides) (Either HasFirstDamage AreDamagedSides)
+        S.Store conn.old conn.new result }
     ensures none { IfOk result HasNoSums }
-    ensures limits { IfOk result AreFitTables }
-    ensures found { FindsTables (Both HasFirst HasSides) S.Store conn.old conn.new result }
-    ensures refused { RefusesFor (Either LacksFirst LacksSides) 2
-        (Either HasFirstDamage AreDamagedSides) S.Store conn.old conn.new result }
-    ensures store { StopsAs WhereStopped 2 S.Store conn.old conn.new result }
-    ensures same { IsUnchangedWhere (WhereShown result) S.Store conn.old conn.new }
-    ensures only { OnlyReads S.Store conn.old conn.new }
 {
     let read: Result<(TableRows, SideRows), RowError> = read_both(alloc, conn, progress);
     match read {
@@ -347,13 +336,10 @@ fn read_third<S: Alter, P: Progress>(
     progress: &mut P,
 ) -> Result<TableRows, RowError>
     requires { conn.old.in_transaction ≡ false }
-    ensures loaded { Loads 3 HoldsThree S.Store conn.old conn.new result }
-    ensures limits { IfOk result AreFitTables }
-    ensures found { FindsTables HasThree S.Store conn.old conn.new result }
-    ensures refused { RefusesFor LacksOfThree 3 IsDamagedOfThree S.Store conn.old conn.new result }
-    ensures store { StopsAs WhereStopped 3 S.Store conn.old conn.new result }
-    ensures same { IsUnchangedWhere (WhereShown result) S.Store conn.old conn.new }
-    ensures only { OnlyReads S.Store conn.old conn.new }
+    ensures { ReadsTables 3 HoldsThree AreFitTables (Both HasFirst (Both HasSides HasSums))
+        (Either LacksFirst (Either LacksSides LacksSums))
+        (Either HasFirstDamage (Either AreDamagedSides AreDamagedSums))
+        S.Store conn.old conn.new result }
 {
     let read: Result<(TableRows, (SideRows, SumRows)), RowError> = read_both(alloc, conn, progress);
     match read {
@@ -373,14 +359,8 @@ pub fn read_tables<S: Alter, P: Progress>(
 ) -> Result<TableRows, RowError>
     requires outside { conn.old.in_transaction ≡ false }
     requires first { 1 ≤ own }
-    ensures loaded { Loads own (HoldsRows own) S.Store conn.old conn.new result }
-    ensures limits { IfOk result AreFitTables }
-    ensures found { FindsTables (HasTables own) S.Store conn.old conn.new result }
-    ensures refused { RefusesFor (LacksTable own) own
+    ensures { ReadsTables own (HoldsRows own) AreFitTables (HasTables own) (LacksTable own)
         (HasDamage own) S.Store conn.old conn.new result }
-    ensures store { StopsAs WhereStopped own S.Store conn.old conn.new result }
-    ensures same { IsUnchangedWhere (WhereShown result) S.Store conn.old conn.new }
-    ensures only { OnlyReads S.Store conn.old conn.new }
 {
     if own < 2 {
         return read_first(alloc, conn, progress);

@@ -1,11 +1,9 @@
 //! A table of the file, all of whose rows can be read.
 
-ghost use Rattle.std.specs.Prelude.{◌≡◌, ◌≢◌, ◌++◌, ◌∷◌, [], false, All, IfOk};
+ghost use Rattle.std.specs.Prelude.{◌≡◌, ◌≢◌, ◌++◌, ◌∷◌, [], false, All};
 ghost use Rattle.file_rows.specs.Unread.{IsUnread};
 ghost use Rattle.file_reads.specs.Damage.{HasMeaning, HasNoMeaning};
-ghost use Rattle.file_scan.specs.Rests.{OnlyReads, WhereShown};
-ghost use Rattle.file_scan.specs.Stopped.{WhereStopped};
-ghost use Rattle.file_scan.specs.Reading.{IsUnchangedWhere, StopsAs, Loads, FindsTables, RefusesFor, HoldsTable, IsDamagedTable};
+ghost use Rattle.file_scan.specs.Reading.{ReadsTables, HoldsTable, IsDamagedTable};
 
 use crate::each::{Taker, each_row};
 use crate::progress::Progress;
@@ -45,15 +43,9 @@ pub(crate) fn rows_in<S: Alter, T: Loaded, P: Progress>(
     progress: &mut P,
 ) -> Result<Vec<T>, RowError>
     requires { conn.old.in_transaction ≡ false }
-    ensures loaded { Loads T.since (λ trees all. HoldsTable T.as_row T.tree trees all.items)
-        S.Store conn.old conn.new result }
-    ensures limits { IfOk result (λ all. All T.fits all.items) }
-    ensures found { FindsTables (λ s. HasMeaning s T.text) S.Store conn.old conn.new result }
-    ensures refused { RefusesFor (λ s. HasNoMeaning s T.text) T.since
+    ensures { ReadsTables T.since (λ trees all. HoldsTable T.as_row T.tree trees all.items)
+        (λ all. All T.fits all.items) (λ s. HasMeaning s T.text) (λ s. HasNoMeaning s T.text)
         (IsDamagedTable T.as_row T.fits T.tree) S.Store conn.old conn.new result }
-    ensures store { StopsAs WhereStopped T.since S.Store conn.old conn.new result }
-    ensures same { IsUnchangedWhere (WhereShown result) S.Store conn.old conn.new }
-    ensures only { OnlyReads S.Store conn.old conn.new }
 {
     let mut gathered: Gathered<T> = Gathered {
         all: Vec::new(alloc),

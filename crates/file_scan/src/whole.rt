@@ -1,12 +1,10 @@
 //! What is read of a file whole: tables one after another.
 
-ghost use Rattle.std.specs.Prelude.{◌≡◌, ◌⊎◌, ℕ, max, false, All, IfOk};
+ghost use Rattle.std.specs.Prelude.{◌≡◌, ℕ, max, false, All};
 ghost use Rattle.sqlite_trees.specs.Tree.{Trees};
 ghost use Rattle.sqlite_schema.specs.declared.schema.Schema.{Schema};
 ghost use Rattle.file_reads.specs.Damage.{HasMeaning, HasNoMeaning};
-ghost use Rattle.file_scan.specs.Rests.{OnlyReads, WhereShown};
-ghost use Rattle.file_scan.specs.Stopped.{WhereStopped};
-ghost use Rattle.file_scan.specs.Reading.{IsUnchangedWhere, StopsAs, Loads, FindsTables, RefusesFor, HoldsTable, IsDamagedTable, HoldsBoth, Both, Either};
+ghost use Rattle.file_scan.specs.Reading.{ReadsTables, HoldsTable, IsDamagedTable, OfBoth, Both, Either};
 
 use crate::progress::Progress;
 use crate::table::rows_in;
@@ -43,13 +41,8 @@ pub(crate) trait Whole: Drop {
         progress: &mut P,
     ) -> Result<Self, RowError>
         requires { conn.old.in_transaction ≡ false }
-        ensures loaded { Loads since is_in S.Store conn.old conn.new result }
-        ensures limits { IfOk result fits }
-        ensures found { FindsTables stands S.Store conn.old conn.new result }
-        ensures refused { RefusesFor lacks since is_damaged S.Store conn.old conn.new result }
-        ensures store { StopsAs WhereStopped since S.Store conn.old conn.new result }
-        ensures same { IsUnchangedWhere (WhereShown result) S.Store conn.old conn.new }
-        ensures only { OnlyReads S.Store conn.old conn.new };
+        ensures { ReadsTables since is_in fits stands lacks is_damaged
+            S.Store conn.old conn.new result };
 }
 
 /// One table's rows.
@@ -82,15 +75,9 @@ pub(crate) fn read_both<S: Alter, A: Whole, B: Whole, P: Progress>(
     progress: &mut P,
 ) -> Result<(A, B), RowError>
     requires { conn.old.in_transaction ≡ false }
-    ensures loaded { Loads (max A.since B.since) (HoldsBoth A.is_in B.is_in)
-        S.Store conn.old conn.new result }
-    ensures limits { IfOk result (λ both. A.fits both.0 × B.fits both.1) }
-    ensures found { FindsTables (Both A.stands B.stands) S.Store conn.old conn.new result }
-    ensures refused { RefusesFor (Either A.lacks B.lacks) (max A.since B.since)
+    ensures { ReadsTables (max A.since B.since) (λ trees. OfBoth (A.is_in trees) (B.is_in trees))
+        (OfBoth A.fits B.fits) (Both A.stands B.stands) (Either A.lacks B.lacks)
         (Either A.is_damaged B.is_damaged) S.Store conn.old conn.new result }
-    ensures store { StopsAs WhereStopped (max A.since B.since) S.Store conn.old conn.new result }
-    ensures same { IsUnchangedWhere (WhereShown result) S.Store conn.old conn.new }
-    ensures only { OnlyReads S.Store conn.old conn.new }
 {
     match A::read(alloc, conn, progress) {
         Ok(first) => match B::read(alloc, conn, progress) {
@@ -106,17 +93,17 @@ pub(crate) fn read_both<S: Alter, A: Whole, B: Whole, P: Progress>(
 }
 
 impl<A: Whole, B: Whole> Whole for (A, B) {
-    ghost is_in = { λ trees both. A.is_in trees both.0 × B.is_in trees both.1 };
+    ghost is_in = { λ trees. OfBoth (A.is_in trees) (B.is_in trees) };
 
-    ghost fits = { λ both. A.fits both.0 × B.fits both.1 };
+    ghost fits = { OfBoth A.fits B.fits };
 
     ghost since = { max A.since B.since };
 
-    ghost stands = { λ s. A.stands s × B.stands s };
+    ghost stands = { Both A.stands B.stands };
 
-    ghost lacks = { λ s. A.lacks s ⊎ B.lacks s };
+    ghost lacks = { Either A.lacks B.lacks };
 
-    ghost is_damaged = { λ trees. A.is_damaged trees ⊎ B.is_damaged trees };
+    ghost is_damaged = { Either A.is_damaged B.is_damaged };
 
     fn read<S: Alter, P: Progress>(
         alloc: Global,

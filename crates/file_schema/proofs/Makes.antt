@@ -1,5 +1,5 @@
 -- What each CREATE TABLE makes beside the tables that stand, and the one CREATE INDEX.
-use Rattle.std.proofs.Common.{◌≡◌, ◌<◌, ◌≤◌, ◌++◌, ℕ, zero, suc, List, [], ◌∷◌, length, map, get_or, false, Ok, refl, subst, arith}
+use Rattle.std.proofs.Common.{◌≡◌, ◌<◌, ◌≤◌, ◌++◌, ℕ, zero, suc, List, [], ◌∷◌, length, map, drop, get_or, false, Ok, refl, subst, arith}
 use Rattle.sqlite_tied.specs.Compute.{everything}
 use Rattle.sqlite_schema.specs.declared.schema.Schema.{Schema}
 use Rattle.sqlite_schema.specs.declared.schema.Table.{Table}
@@ -10,7 +10,9 @@ use Rattle.sqlite.specs.Does.{lacks_sequence}
 use Rattle.sqlite.specs.Listing.{understood}
 use Rattle.sqlite.specs.State.{State, Executes, HasCleanDisk, Survives}
 use Rattle.sqlite.proofs.Callers.{IsPlain, command_of, statement_of}
-use Rattle.file_schema.specs.Tables.{schema, schema_of, shop_text, shop_table, items_text, items_table, variations_text, variations_table, quotas_text, quotas_table, quota_items_text, quota_items_table, quota_variations_text, quota_variations_table, vouchers_text, vouchers_table, cart_positions_text, cart_positions_table, orders_text, orders_table, order_positions_text, order_positions_table, waiting_text, waiting_table, checkin_lists_text, checkin_lists_table, list_items_text, list_items_table, checkins_text, checkins_table, quota_count_text, quota_count_table, tokens_text, tokens_table, kept_text, kept_table, kept_by_moment, kept_by_moment_text, quota_release_text, quota_release_table, quota_exited_text, quota_exited_table, voucher_budget_text, voucher_budget_table, voucher_spent_text, voucher_spent_table, position_discount_text, position_discount_table}
+use Rattle.file_schema.specs.Tables.{schema, schema_of, shop_text, shop_table, items_text, items_table, variations_text, variations_table, quotas_text, quotas_table, quota_items_text, quota_items_table, quota_variations_text, quota_variations_table, vouchers_text, vouchers_table, cart_positions_text, cart_positions_table}
+use Rattle.file_schema.specs.Tables.{orders_text, orders_table, order_positions_text, order_positions_table, waiting_text, waiting_table, checkin_lists_text, checkin_lists_table, list_items_text, list_items_table, checkins_text, checkins_table, quota_count_text, quota_count_table, tokens_text, tokens_table, kept_text, kept_table, kept_by_moment}
+use Rattle.file_schema.specs.Tables.{kept_by_moment_text, quota_release_text, quota_release_table, quota_exited_text, quota_exited_table, voucher_budget_text, voucher_budget_table, voucher_spent_text, voucher_spent_table, position_discount_text, position_discount_table}
 use Rattle.file_schema.specs.Blank.{blank_schema}
 use Rattle.file_schema.specs.Versions.{steps, stage, statement_texts, schema_after}
 use Rattle.file_schema.specs.Grown.{IsInsideOver}
@@ -335,8 +337,13 @@ past (suc i) first [] all = refl
 past zero first (it ∷ steps) all = absurd (omega (arith, all))
 past (suc i) first (it ∷ steps) all = past i it.1 steps (omega (arith, all))
 
+-- what makes the tables behind the first twelve
+later : Leads (schema_after 12) (drop 12 steps)
+later = (makes_list_items, (makes_checkins, (makes_quota_count, (makes_tokens, (makes_kept, (indexes_kept, (makes_quota_release, (makes_quota_exited, (makes_voucher_budget, (makes_voucher_spent, (makes_position_discount, tt)))))))))))
+
 pub each : (i : ℕ) → i < 23 → Makes (schema_after i) (get_or statement_texts i []) (schema_after (suc i))
-each i = leads_at i blank_schema steps (makes_shop, (makes_items, (makes_variations, (makes_quotas, (makes_quota_items, (makes_quota_variations, (makes_vouchers, (makes_cart_positions, (makes_orders, (makes_order_positions, (makes_waiting, (makes_checkin_lists, (makes_list_items, (makes_checkins, (makes_quota_count, (makes_tokens, (makes_kept, (indexes_kept, (makes_quota_release, (makes_quota_exited, (makes_voucher_budget, (makes_voucher_spent, (makes_position_discount, tt)))))))))))))))))))))))
+each i =
+    leads_at i blank_schema steps (makes_shop, (makes_items, (makes_variations, (makes_quotas, (makes_quota_items, (makes_quota_variations, (makes_vouchers, (makes_cart_positions, (makes_orders, (makes_order_positions, (makes_waiting, (makes_checkin_lists, later))))))))))))
 
 pub all_made : (i : ℕ) → 23 ≤ i → schema_after i ≡ schema
 all_made i all = past i blank_schema steps all

@@ -1,5 +1,5 @@
 -- What a call's outcome tells of a connection, as long as the disk returned what was written.
-use Rattle.std.specs.Prelude.{List, Result, Vec, IsTrue, IfOk, OnOk, OnErr}
+use Rattle.std.specs.Prelude.{List, Result, Vec, IsTrue, IfOk, OnOk}
 use Rattle.std.specs.declared.alloc.Global.{Global}
 use Rattle.sqlite_trees.specs.declared.store.Store.{Ghosts}
 use Rattle.sqlite.specs.Effect.{Database}
@@ -10,10 +10,6 @@ use Rattle.file_schema.specs.Clean.{WhileClean}
 -- where it is done, this holds of the connection before and after
 abbrev pub OnOkWhileClean : {S T E : Type 0} → Ghosts S → Held S → Held S → (State → State → Type 0) → Result T E → Type 0
 OnOkWhileClean g old new Relates result = WhileClean g old new (λ a b. OnOk result (Relates a b))
-
--- where it is refused, this holds of them
-abbrev pub OnErrWhileClean : {S T E : Type 0} → Ghosts S → Held S → Held S → (State → State → Type 0) → Result T E → Type 0
-OnErrWhileClean g old new Relates result = WhileClean g old new (λ a b. OnErr result (Relates a b))
 
 -- the connection was open
 abbrev pub WasOpen : State → State → Type 0

@@ -2,6 +2,7 @@
 use Rattle.std.proofs.Common.{◌≡◌, ℕ, ◌+◌, zero, suc, List, [], ◌∷◌, ◌++◌, map, take, drop, true, refl, ap, subst, Result, Ok, Err, OnOk, IfOk}
 use Rattle.std.specs.List.Sorted.{IsPermutation}
 use Rattle.std.proofs.lemmas.List.Sorted.{IsPermutation-refl, IsPermutation-sym, IsPermutation-trans, IsPermutation-map, IsPermutation-middle}
+use Rattle.sqlite_value.specs.Order.{Row}
 use Rattle.sqlite_trees.specs.Tree.{Trees}
 use Rattle.sqlite.specs.Effect.{Database, IsDatabase}
 use Rattle.sqlite.specs.State.{State as Connected, Survives}
@@ -9,6 +10,7 @@ use Rattle.sqlite.proofs.StateLemmas.{survives_weaker}
 use Rattle.file_schema.specs.Tables.{schema, all_tables, quota_release_table, quota_exited_table, voucher_budget_table, voucher_spent_table, position_discount_table}
 use Rattle.file_schema.specs.Blank.{blank_schema}
 use Rattle.file_schema.specs.Grown.{Grows}
+use Rattle.file_schema.specs.Parts.{Part, HoldParts}
 use Rattle.file_schema.specs.Versions.{schema_of_version}
 use Rattle.file_schema.specs.Whole.{IsWritten, MayBeWritten}
 use Rattle.file_schema.proofs.Standing.{parts_grown}
@@ -44,14 +46,21 @@ module _ {A : Type 0} (with_row : A → Tables → Tables) (rows : Tables → Li
       let more = rows (each with_row xs (with_row x t)) in
       IsPermutation-trans (x ∷ (xs ++ rows t)) (xs ++ x ∷ rows t) more (IsPermutation-sym (xs ++ x ∷ rows t) (x ∷ (xs ++ rows t)) (IsPermutation-middle xs x (rows t))) (subst (λ l. IsPermutation (xs ++ l) more) (adds x t) (added_first xs (with_row x t)))
 
+abbrev part : ℕ → List Row → Part
+part tree rows = record { tree = tree; rows = rows }
+
+-- the rows of one table, in another order
+part_along : (db : Trees) (before after : List Part) (tree : ℕ) (xs ys : List Row) → IsPermutation xs ys → HoldParts schema db (before ++ part tree ys ∷ after) → HoldParts schema db (before ++ part tree xs ∷ after)
+part_along db [] after tree xs ys same h = (IsPermutation-trans xs ys _ same h.0, h.1)
+part_along db (p ∷ before) after tree xs ys same h = (h.0, part_along db before after tree xs ys same h.1)
+
 -- only the rows of exits differ
 only_exits : (exits : List ExitRow) (t : Tables) → each with_exit exits t ≡ record t { exits = (each with_exit exits t).exits }
 only_exits [] t = refl
 only_exits (x ∷ xs) t = only_exits xs (with_exit x t)
 
 exits_along : (db : Trees) (t : Tables) (xs : List ExitRow) → IsPermutation xs t.exits → Holds db t → Holds db (record t { exits = xs })
-exits_along db t xs same h =
-    (h.0, (h.1.0, (h.1.1.0, (h.1.1.1.0, (h.1.1.1.1.0, (h.1.1.1.1.1.0, (h.1.1.1.1.1.1.0, (h.1.1.1.1.1.1.1.0, (h.1.1.1.1.1.1.1.1.0, (h.1.1.1.1.1.1.1.1.1.0, (h.1.1.1.1.1.1.1.1.1.1.0, (h.1.1.1.1.1.1.1.1.1.1.1.0, (h.1.1.1.1.1.1.1.1.1.1.1.1.0, (h.1.1.1.1.1.1.1.1.1.1.1.1.1.0, (h.1.1.1.1.1.1.1.1.1.1.1.1.1.1.0, (h.1.1.1.1.1.1.1.1.1.1.1.1.1.1.1.0, (h.1.1.1.1.1.1.1.1.1.1.1.1.1.1.1.1.0, (h.1.1.1.1.1.1.1.1.1.1.1.1.1.1.1.1.1.0, (IsPermutation-trans (map exit_row xs) (map exit_row t.exits) _ (IsPermutation-map exit_row xs t.exits same) h.1.1.1.1.1.1.1.1.1.1.1.1.1.1.1.1.1.1.0, h.1.1.1.1.1.1.1.1.1.1.1.1.1.1.1.1.1.1.1)))))))))))))))))))
+exits_along db t xs same = part_along db (take 18 (parts t)) (drop 19 (parts t)) 28 (map exit_row xs) (map exit_row t.exits) (IsPermutation-map exit_row xs t.exits same)
 
 exits_held : (exits : List ExitRow) (db : Trees) (t : Tables) → Holds db (each with_exit exits t) → Holds db (with_exits exits t)
 exits_held exits db t h =
@@ -64,8 +73,7 @@ only_spents [] t = refl
 only_spents (x ∷ xs) t = only_spents xs (with_spent x t)
 
 spents_along : (db : Trees) (t : Tables) (xs : List SpentRow) → IsPermutation xs t.spents → Holds db t → Holds db (record t { spents = xs })
-spents_along db t xs same h =
-    (h.0, (h.1.0, (h.1.1.0, (h.1.1.1.0, (h.1.1.1.1.0, (h.1.1.1.1.1.0, (h.1.1.1.1.1.1.0, (h.1.1.1.1.1.1.1.0, (h.1.1.1.1.1.1.1.1.0, (h.1.1.1.1.1.1.1.1.1.0, (h.1.1.1.1.1.1.1.1.1.1.0, (h.1.1.1.1.1.1.1.1.1.1.1.0, (h.1.1.1.1.1.1.1.1.1.1.1.1.0, (h.1.1.1.1.1.1.1.1.1.1.1.1.1.0, (h.1.1.1.1.1.1.1.1.1.1.1.1.1.1.0, (h.1.1.1.1.1.1.1.1.1.1.1.1.1.1.1.0, (h.1.1.1.1.1.1.1.1.1.1.1.1.1.1.1.1.0, (h.1.1.1.1.1.1.1.1.1.1.1.1.1.1.1.1.1.0, (h.1.1.1.1.1.1.1.1.1.1.1.1.1.1.1.1.1.1.0, (h.1.1.1.1.1.1.1.1.1.1.1.1.1.1.1.1.1.1.1.0, (IsPermutation-trans (map spent_row xs) (map spent_row t.spents) _ (IsPermutation-map spent_row xs t.spents same) h.1.1.1.1.1.1.1.1.1.1.1.1.1.1.1.1.1.1.1.1.0, h.1.1.1.1.1.1.1.1.1.1.1.1.1.1.1.1.1.1.1.1.1)))))))))))))))))))))
+spents_along db t xs same = part_along db (take 20 (parts t)) (drop 21 (parts t)) 30 (map spent_row xs) (map spent_row t.spents) (IsPermutation-map spent_row xs t.spents same)
 
 spents_held : (spents : List SpentRow) (db : Trees) (t : Tables) → Holds db (each with_spent spents t) → Holds db (with_spents spents t)
 spents_held spents db t h =

@@ -1,7 +1,8 @@
 -- A shop before its first change, and what a new version and a new token make of its tables.
 use Rattle.std.specs.Prelude.{◌≡◌, ℕ, List, ◌++◌}
+use Rattle.sqlite_trees.specs.declared.store.Store.{Ghosts}
 use Rattle.sqlite.specs.Effect.{Database}
-use Rattle.sqlite.specs.State.{State}
+use Rattle.sqlite.specs.Held.{Held, state}
 use Rattle.file_schema.specs.Blank.{blank_schema}
 use Rattle.file_schema.specs.Tables.{schema, this_version}
 use Rattle.file_rows.specs.declared.rows.ExitRow.{ExitRow}
@@ -10,6 +11,7 @@ use Rattle.file_rows.specs.declared.rows.SpentRow.{SpentRow}
 use Rattle.file_rows.specs.declared.rows.Token.{Token}
 use Rattle.file_rows.specs.Changes.{with_shop, without_shop, with_token}
 use Rattle.file_rows.specs.Tables.{Tables, Holds, HoldsAt, no_rows}
+use Rattle.file_tables.specs.Whole.{LeavesMade}
 
 -- no row but the shop's own
 abbrev pub first_tables : ShopRow → Tables
@@ -24,9 +26,13 @@ pub record IsBegun (shop : ShopRow) (db : Database) : Type 0 where
 abbrev pub BecomesBegun : ShopRow → Database → Database → Type 0
 BecomesBegun shop db after = IsBegun shop after
 
--- the connection sees a database that has no table
-abbrev pub SeesNoTable : State → Type 0
-SeesNoTable s = s.now.schema ≡ blank_schema
+-- the connection sees a database that has a table, an index or a view already
+abbrev pub HasTables : {S : Type 0} → Ghosts S → Held S → Type 0
+HasTables g c = ¬ ((state g c).now.schema ≡ blank_schema)
+
+-- a crash leaves what it could have left before, or a shop's tables with no row but the shop's own
+abbrev pub LeavesBegun : {S : Type 0} → Ghosts S → Held S → Held S → ShopRow → Type 0
+LeavesBegun g old new shop = LeavesMade g old new blank_schema (BecomesBegun shop)
 
 -- the shop's row of an earlier version, once its tables are of this one
 abbrev pub of_this_version : ShopRow → ShopRow

@@ -1,9 +1,8 @@
 -- What the tables of a shop in a file hold and know, said of the tables with their connection.
-use Rattle.std.specs.Prelude.{◌≡◌, List}
+use Rattle.std.specs.Prelude.{List}
 use Rattle.sqlite_trees.specs.declared.store.Store.{Ghosts}
-use Rattle.sqlite_trees.specs.Tree.{Trees}
 use Rattle.sqlite.specs.Held.{state}
-use Rattle.sqlite.specs.State.{State as Connected, HasCleanDisk}
+use Rattle.sqlite.specs.State.{HasCleanDisk}
 use Rattle.model_rows.specs.Lists.{State}
 use Rattle.model_answers.specs.declared.kept.Kept.{Kept}
 use Rattle.model_answers.specs.House.{House}
@@ -21,7 +20,3 @@ TablesKnow g t house = KnowsWhileOpen t.head t.next_row (state g t.connection) h
 -- while the disk is clean: so it is with each house that the tables knew
 abbrev pub OfKnownHouse : {S : Type 0} → Ghosts S → SqlTables S → SqlTables S → (House → Type 0) → Type 0
 OfKnownHouse g old new IsSo = HasCleanDisk (state g new.connection) → (house : House) → TablesKnow g old house → IsSo house
-
--- a crash leaves what the connection sees
-abbrev pub LeavesItself : Connected → Type 0
-LeavesItself c = (db : Trees) → c.may_leave db → db ≡ c.now.trees

@@ -8,3 +8,6 @@ pub mod Steps
 pub mod Made
 pub mod Tokens
 pub mod Known
+pub mod Whole
+pub mod Adding
+pub mod Numbered

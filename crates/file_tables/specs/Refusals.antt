@@ -8,6 +8,7 @@ use Rattle.file_tables.specs.declared.error.CreateError.TheVariants as making
 use Rattle.file_tables.specs.declared.error.TokenError.{TokenError}
 use Rattle.file_tables.specs.declared.error.TokenError.TheVariants as tokens
 
+-- how a shop's tables refuse what a row's statement was refused for
 abbrev pub refusal_of : RowError → TablesError
 refusal_of rows.Memory = tables.Memory
 refusal_of rows.Foreign = tables.Store

@@ -51,6 +51,7 @@ pub record Knows (head : ShopRow) (next : ℕ) (db : Database) (house : House) :
   pub tells : Tells db.trees head house
   pub free : IsFree next tells.tables
 
+-- an open connection shows tables that tell this house
 abbrev pub KnowsWhileOpen : ShopRow → ℕ → Connected → House → Type 0
 KnowsWhileOpen head next c house = IsTrue c.is_open → Knows head next c.now house
 

@@ -1,8 +1,8 @@
 //! A new token.
 
 ghost use Rattle.file_schema.specs.Tables.{schema};
-ghost use Rattle.file_schema.specs.Whole.{WritesWhole};
 ghost use Rattle.file_tables.specs.Begun.{HasToken};
+ghost use Rattle.file_tables.specs.Whole.{MakesWhole};
 
 use file_rows::{ShopRow, Token};
 use file_schema::{RowError, Writing, write_whole};
@@ -34,8 +34,8 @@ pub(crate) fn put_token<S: Alter>(
     shop: &ShopRow,
     token: &Token,
 ) -> Result<(), RowError>
-    ensures { WritesWhole S.Store connection.old connection.new schema
-        (λ (_ : Unit {0}). HasToken shop.now token.now) result }
+    ensures { MakesWhole S.Store connection.old connection.new schema
+        (HasToken shop.now token.now) result }
 {
     write_whole(connection, &NewToken { shop, token })
 }

@@ -3,12 +3,11 @@
 ghost use Rattle.std.specs.Prelude.{◌≡◌, List, IfOk};
 ghost use Rattle.file_schema.specs.Clean.{WhileClean, LeavesNoMore};
 ghost use Rattle.file_schema.specs.Outcomes.{OnOkWhileClean, WasOpen};
-ghost use Rattle.file_schema.specs.Tables.{schema};
 ghost use Rattle.model_answers.specs.KeptAnswers.{told_by};
 ghost use Rattle.model_answers.specs.declared.kept.Kept.{Kept};
-ghost use Rattle.file_reads.specs.Lookups.{is_under, AreAllThatPass};
+ghost use Rattle.file_reads.specs.Lookups.{is_under};
 ghost use Rattle.file_schema.specs.Whole.{IsStill};
-ghost use Rattle.file_tables.specs.Held.{KeepsAnswers};
+ghost use Rattle.file_tables.specs.Held.{AreAllOfShop, KeepsAnswers};
 
 use base_values::{Moment, Response};
 use file_reads::find_kept;
@@ -25,8 +24,7 @@ struct Under<'a> {
 }
 
 impl Lookup<KeptRow> for Under<'_> {
-    ghost finds = { λ what db all. db.schema ≡ schema
-        → AreAllThatPass (λ t. t.kept) (is_under what.token what.key.now) db.trees all };
+    ghost finds = { λ what. AreAllOfShop (λ t. t.kept) (is_under what.token what.key.now) };
 
     fn look<S: Alter>(
         &self,

@@ -1,11 +1,11 @@
 //! The first row of a shop.
 
-ghost use Rattle.std.specs.Prelude.{◌≡◌, true, IsTrue, Err};
-ghost use Rattle.sqlite.specs.Held.{state};
+ghost use Rattle.std.specs.Prelude.{◌≡◌, true, IsTrue, OnErr, Err};
 ghost use Rattle.file_schema.specs.Blank.{blank_schema};
-ghost use Rattle.file_schema.specs.Outcomes.{OnOkWhileClean, OnErrWhileClean};
-ghost use Rattle.file_schema.specs.Whole.{IsStill, IsWritten, LeavesWhole};
-ghost use Rattle.file_tables.specs.Begun.{BecomesBegun, SeesNoTable};
+ghost use Rattle.file_schema.specs.Clean.{WhileClean};
+ghost use Rattle.file_schema.specs.Outcomes.{OnOkWhileClean};
+ghost use Rattle.file_schema.specs.Whole.{IsStill, IsWritten};
+ghost use Rattle.file_tables.specs.Begun.{BecomesBegun, HasTables, LeavesBegun};
 ghost use Rattle.file_tables.specs.Made.{first_shop};
 ghost use Rattle.file_tables.specs.declared.error.CreateError.TheVariants.{NotBlank};
 
@@ -48,11 +48,11 @@ pub(crate) fn begin<S: Alter>(
 ) -> Result<(), CreateError>
     ensures all { OnOkWhileClean S.Store connection.old connection.new
         (IsWritten (BecomesBegun shop.now)) result }
-    ensures none { OnErrWhileClean S.Store connection.old connection.new IsStill result }
-    ensures blank { ¬ SeesNoTable (state S.Store connection.old) → result ≡ Err NotBlank }
-    ensures taken { result ≡ Err NotBlank → ¬ SeesNoTable (state S.Store connection.old) }
-    ensures crash { LeavesWhole S.Store connection.old connection.new blank_schema
-        (λ (_ : Unit {0}). BecomesBegun shop.now) }
+    ensures none { WhileClean S.Store connection.old connection.new
+        (λ old new. OnErr result (IsStill old new)) }
+    ensures blank { HasTables S.Store connection.old → result ≡ Err NotBlank }
+    ensures taken { result ≡ Err NotBlank → HasTables S.Store connection.old }
+    ensures crash { LeavesBegun S.Store connection.old connection.new shop.now }
 {
     if !is_blank(connection.schema()) {
         return Err(CreateError::NotBlank);

@@ -1,10 +1,8 @@
 //! What one commit writes.
 
-ghost use Rattle.std.specs.Prelude.{◌≡◌, ◌+◌};
 ghost use Rattle.file_schema.specs.Tables.{schema};
 ghost use Rattle.model_answers.specs.ShopView.{listed};
-ghost use Rattle.file_meaning.specs.Made.{done, next_after};
-ghost use Rattle.file_tables.specs.Committed.{Turns};
+ghost use Rattle.file_tables.specs.Committed.{Commits};
 
 use crate::writes::write_all;
 use base_values::Moment;
@@ -31,10 +29,8 @@ pub(crate) struct Commit<'a> {
 impl Writing<u64> for Commit<'_> {
     ghost over = { λ _. schema };
 
-    ghost turns = { λ what free before after. (free ≡ next_after what.changes.now what.from + 1)
-        × Turns what.from
-        (done what.shop.now what.changes.now what.counts.now what.from (listed what.kept) what.at)
-        before after };
+    ghost turns = { λ what. Commits what.shop.now what.changes.now what.counts.now what.from
+        (listed what.kept) what.at };
 
     fn write<S: Alter>(&self, tx: &mut Transaction<'_, S>) -> Result<u64, RowError> {
         write_all(

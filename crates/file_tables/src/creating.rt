@@ -1,11 +1,9 @@
 //! A shop's file is made.
 
 ghost use Rattle.std.specs.Prelude.{◌≡◌, IfOk, IfErr, IsErrAnd};
-ghost use Rattle.sqlite.specs.Held.{state};
-ghost use Rattle.file_schema.specs.Blank.{blank_schema};
 ghost use Rattle.file_schema.specs.Clean.{WhileClean};
-ghost use Rattle.file_schema.specs.Whole.{IsStill, LeavesWhole};
-ghost use Rattle.file_tables.specs.Begun.{BecomesBegun, SeesNoTable};
+ghost use Rattle.file_schema.specs.Whole.{IsStill};
+ghost use Rattle.file_tables.specs.Begun.{HasTables, LeavesBegun};
 ghost use Rattle.file_tables.specs.Made.{first_shop, IsMade};
 ghost use Rattle.file_tables.specs.declared.error.CreateError.TheVariants.{NotBlank};
 
@@ -29,14 +27,12 @@ pub fn create<S: Alter>(
     ensures made { IfOk result (λ tables. WhileClean S.Store connection tables.connection
         (λ old new. IsMade (first_shop organizer event) old tables.head tables.next_row new)) }
     ensures none { IfErr result (λ it. WhileClean S.Store connection it.connection IsStill) }
-    ensures blank { ¬ SeesNoTable (state S.Store connection)
-        → IsErrAnd result (λ it. it.error ≡ NotBlank) }
-    ensures taken { IfErr result (λ it. it.error ≡ NotBlank
-        → ¬ SeesNoTable (state S.Store connection)) }
-    ensures crash { IfOk result (λ tables. LeavesWhole S.Store connection tables.connection
-        blank_schema (λ (_ : Unit {0}). BecomesBegun (first_shop organizer event))) }
-    ensures crash_none { IfErr result (λ it. LeavesWhole S.Store connection it.connection
-        blank_schema (λ (_ : Unit {0}). BecomesBegun (first_shop organizer event))) }
+    ensures blank { HasTables S.Store connection → IsErrAnd result (λ it. it.error ≡ NotBlank) }
+    ensures taken { IfErr result (λ it. it.error ≡ NotBlank → HasTables S.Store connection) }
+    ensures crash { IfOk result (λ tables. LeavesBegun S.Store connection tables.connection
+        (first_shop organizer event)) }
+    ensures crash_none { IfErr result (λ it. LeavesBegun S.Store connection it.connection
+        (first_shop organizer event)) }
 {
     let head = first_row(organizer, event);
     match begin(&mut connection, &head) {

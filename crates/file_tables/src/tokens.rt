@@ -3,10 +3,9 @@
 ghost use Rattle.std.specs.Prelude.{◌≡◌, ℕ, List, Option, IfOk};
 ghost use Rattle.file_schema.specs.Clean.{WhileClean, LeavesNoMore};
 ghost use Rattle.file_schema.specs.Outcomes.{OnOkWhileClean, WasOpen};
-ghost use Rattle.file_schema.specs.Tables.{schema};
-ghost use Rattle.file_reads.specs.Lookups.{has_digest, AreAllThatPass};
+ghost use Rattle.file_reads.specs.Lookups.{has_digest};
 ghost use Rattle.file_schema.specs.Whole.{IsStill};
-ghost use Rattle.file_tables.specs.Held.{KnowsTokens};
+ghost use Rattle.file_tables.specs.Held.{AreAllOfShop, KnowsTokens};
 
 use file_reads::find_token;
 use file_rows::Token;
@@ -21,8 +20,7 @@ struct OfDigest<'a> {
 }
 
 impl Lookup<Token> for OfDigest<'_> {
-    ghost finds = { λ what db all. db.schema ≡ schema
-        → AreAllThatPass (λ t. t.tokens) (has_digest what.digest.now) db.trees all };
+    ghost finds = { λ what. AreAllOfShop (λ t. t.tokens) (has_digest what.digest.now) };
 
     fn look<S: Alter>(
         &self,

@@ -3,9 +3,9 @@
 ghost use Rattle.file_rows.specs.Changes.{Changes};
 ghost use Rattle.file_rows.specs.Written.{WritesInside};
 ghost use Rattle.file_schema.specs.Versions.{schema_of_version};
-ghost use Rattle.file_schema.specs.Whole.{WritesWhole};
 ghost use Rattle.file_meaning.specs.Made.{each};
 ghost use Rattle.file_tables.specs.Begun.{IsUpgraded};
+ghost use Rattle.file_tables.specs.Whole.{MakesWhole};
 
 use file_rows::{ExitRow, ShopRow, SpentRow};
 use file_schema::{RowError, Writing, add_tables, write_whole};
@@ -15,7 +15,7 @@ use sqlite::{Alter, Connection, Transaction};
 // Adds rows, whose keys have to be new.
 fn add_rows<S: Alter, T: Stored>(tx: &mut Transaction<'_, S>, rows: &[T]) -> Result<(), RowError>
     ensures { WritesInside S.Store tx.old tx.new
-        (Changes (each T.Stored.with_row rows.now)) result }
+        (Changes (each T.with_row rows.now)) result }
 {
     'rows: for row in rows {
         row.insert(tx)?;
@@ -56,8 +56,8 @@ pub fn upgrade<S: Alter>(
     spents: &[SpentRow],
     from: u64,
 ) -> Result<(), RowError>
-    ensures { WritesWhole S.Store connection.old connection.new (schema_of_version from)
-        (λ (_ : Unit {0}). IsUpgraded shop.now exits.now spents.now from) result }
+    ensures { MakesWhole S.Store connection.old connection.new (schema_of_version from)
+        (IsUpgraded shop.now exits.now spents.now from) result }
 {
     let what = ToThisVersion {
         shop,

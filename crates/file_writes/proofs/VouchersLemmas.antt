@@ -81,7 +81,10 @@ table_is = record { placed = refl; uncounted = refl; unstamped = refl; restricts
 
 -- the columns behind the id, as they are stored
 abbrev behind : VoucherRow → Row
-behind r = Null ∷ Text r.voucher.code ∷ number r.voucher.max_usages ∷ or_null number r.voucher.valid_until ∷ truth r.voucher.block_quota ∷ truth r.voucher.allow_ignore_quota ∷ mode r.voucher.price_mode ∷ or_null number r.voucher.value ∷ or_null number r.voucher.item ∷ or_null number r.voucher.variation ∷ or_null number r.voucher.quota ∷ Text r.voucher.tag ∷ Text r.voucher.comment ∷ number r.redeemed ∷ []
+behind r =
+    Null ∷ Text r.voucher.code ∷ number r.voucher.max_usages ∷ or_null number r.voucher.valid_until ∷ truth r.voucher.block_quota
+    ∷ truth r.voucher.allow_ignore_quota ∷ mode r.voucher.price_mode ∷ or_null number r.voucher.value ∷ or_null number r.voucher.item
+    ∷ or_null number r.voucher.variation ∷ or_null number r.voucher.quota ∷ Text r.voucher.tag ∷ Text r.voucher.comment ∷ number r.redeemed ∷ []
 
 casts : (id : ℕ) (r : VoucherRow) → cast_row vouchers_table (number id ∷ behind r) ≡ number id ∷ behind r
 casts id r = simp (cast_int, cast_null, cast_int_or_null (λ n. pos n), cast_mode)

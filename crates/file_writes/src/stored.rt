@@ -82,8 +82,7 @@ pub trait Stored {
 /// Puts the row in the place of its id, instead of the row that stood there.
 pub fn put<S: Alter, T: Stored>(tx: &mut Transaction<'_, S>, row: &T) -> Result<(), RowError>
     ensures { WritesInside S.Store tx.old tx.new
-        (Changes (λ t. T.Stored.with_row row.now
-        (T.Stored.without_row (T.Stored.key row.now) t))) result }
+        (Changes (λ t. T.with_row row.now (T.without_row (T.key row.now) t))) result }
 {
     let stood = row.update(tx)?;
     if stood {

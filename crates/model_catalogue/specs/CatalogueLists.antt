@@ -1,5 +1,5 @@
 -- All that is for sale, as lists of rows in order of id.
-use Rattle.std.specs.Prelude.{ℕ, Bool, true, false, ◌&&◌, List, map, filter, ◌==◌, Option, Some, None, Result, Ok, unwrap_or}
+use Rattle.std.specs.Prelude.{ℕ, Bool, true, false, ◌&&◌, List, filter, ◌==◌, Option, Some, None, Result, Ok, unwrap_or}
 use Rattle.std.specs.List.{list_any}
 use Rattle.std.specs.Option.{ok_or}
 use Rattle.base_values.specs.Deciding.{◌>>=◌, ◌>>◌, check, refuse_if}
@@ -18,11 +18,6 @@ pub record CatalogueLists : Type 0 where
   pub items : List Item
   pub variations : List Variation
   pub quotas : List Quota
-
--- the lists, and how many rows each of them can be given without taking memory
-pub record CatalogueTables : Type 0 where
-  pub lists : CatalogueLists
-  pub room : ℕ
 
 -- the item of this id, if there is one
 abbrev pub item_at : ℕ → CatalogueLists → Option Item
@@ -59,10 +54,6 @@ abbrev pub product_of : ℕ → Option ℕ → CatalogueLists → Result Product
 product_of item variation lists = do
   row ← ok_or (item_at item lists) NoItem
   product_in item variation lists row
-
--- the quotas that a product is in, by id
-abbrev pub quotas_of : Product → CatalogueLists → List ℕ
-quotas_of product lists = map (λ quota. quota.id) (filter (λ quota. is_in quota product) lists.quotas)
 
 -- the variation's price where it has one, else the item's
 abbrev pub priced : ℕ → Option Variation → Option ℕ

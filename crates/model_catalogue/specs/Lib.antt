@@ -1,6 +1,7 @@
 pub mod Limits
 pub mod Member
 pub mod CatalogueLists
+pub mod Kept
 pub mod VariationAdded
 pub mod ItemAdded
 pub mod ItemChanged

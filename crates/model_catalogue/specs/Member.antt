@@ -1,5 +1,5 @@
 -- Which products a quota has, and how much room that takes.
-use Rattle.std.specs.Prelude.{ℕ, ◌+◌, Bool, length, Option, Some, None}
+use Rattle.std.specs.Prelude.{ℕ, Bool, Option, Some, None}
 use Rattle.base_sorted.specs.Tables.{has}
 use Rattle.model_catalogue.specs.declared.rows.Quota.{Quota}
 use Rattle.model_catalogue.specs.declared.rows.Product.{Product}
@@ -12,7 +12,3 @@ lists quota product (Some variation) = has variation quota.variations
 -- the product is in the quota: by its variation, or, without one, by its item
 abbrev pub is_in : Quota → Product → Bool
 is_in quota product = lists quota product product.variation
-
--- how much room a quota takes: for its row, and for each of its members
-abbrev pub quota_weight : Quota → ℕ
-quota_weight quota = 1 + (length quota.items + length quota.variations)

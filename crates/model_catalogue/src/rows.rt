@@ -1,7 +1,8 @@
 //! The rows of the catalogue.
 
 ghost use Rattle.std.specs.Prelude.{◌≡◌, IfOk};
-ghost use Rattle.model_catalogue.specs.Member.{is_in, quota_weight};
+ghost use Rattle.model_catalogue.specs.Member.{is_in};
+ghost use Rattle.model_catalogue.specs.Kept.{quota_weight};
 
 use base_sorted::{Ids, Row};
 use base_values::{Cents, List, Size, Text};

@@ -5,7 +5,8 @@ use Rattle.std.specs.List.{AllByRecursion, insert}
 use Rattle.std.proofs.lemmas.Bool.Decides.{nat_tests}
 use Rattle.std.proofs.lemmas.List.Sums.{sum_by-cons}
 use Rattle.model_rows.specs.declared.rows.OrderPos.{OrderPos}
-use Rattle.model_invariant.specs.Positions.{placed, place_in, by_positionid, CountFrom, HaveOtherNumbers, AreEachOnce}
+use Rattle.model_invariant.specs.Positions.{placed, place_in, by_positionid, CountFrom}
+use Rattle.model_invariant.specs.Shown.{HaveOtherNumbers, AreEachOnce}
 use Rattle.model_rows.proofs.EachRow.{all_weaker}
 use Rattle.model_invariant.proofs.Apart.{AreApart}
 

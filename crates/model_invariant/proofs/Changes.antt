@@ -33,7 +33,7 @@ use Rattle.model_rows.proofs.Time.{eqb_flip}
 use Rattle.model_invariant.specs.Changes.{product_stands, same_place, CanBeMade, EachCanBeMade, LeadTo}
 use Rattle.model_invariant.specs.Checkins.{HasItems, IsCheckedIn, same_nonce, repeats, AreOnce}
 use Rattle.model_invariant.specs.Members.{HasMembers}
-use Rattle.model_invariant.specs.Secrets.{HaveUnlikeSecrets}
+use Rattle.model_invariant.specs.Shown.{HaveUnlikeSecrets}
 use Rattle.model_invariant.specs.Sent.{voucher_stands}
 use Rattle.model_invariant.specs.Sound.{IsSound, IsSoundWith}
 use Rattle.model_invariant.specs.Targets.{variation_by, variation_stands, HasTarget}

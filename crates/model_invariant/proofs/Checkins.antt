@@ -13,7 +13,8 @@ use Rattle.model_rows.specs.Lists.{Lists, State, no_rows}
 use Rattle.model_rows.specs.Change.{after_change}
 use Rattle.model_rows.specs.Numbered.{with_checkin}
 use Rattle.model_rows.proofs.EachRow.{all_weaker, all-with_row, with_row_cases, neither_first, neither_second}
-use Rattle.model_invariant.specs.Checkins.{has_item, HasItems, IsCheckedIn, repeats, is_repeated, AreOnce, IsDoorOf}
+use Rattle.model_invariant.specs.Checkins.{has_item, HasItems, IsCheckedIn, repeats, AreOnce, IsDoorOf}
+use Rattle.model_invariant.specs.Shown.{is_repeated}
 
 -- what stood stands where a row is put
 still_stands : {T : Type 0} (key : T → ℕ) (row : T) (id : ℕ) (rows : List T) → is_some (row_at key id rows) ≡ true → is_some (row_at key id (with_row key row rows)) ≡ true

@@ -13,7 +13,8 @@ use Rattle.model_rows.specs.declared.rows.Voucher.{Voucher}
 use Rattle.model_rows.specs.Conditions.{is_live_voucher, hits_by_product, hits_by, hits, names}
 use Rattle.model_rows.specs.Lists.{Lists, State, voucher_at}
 use Rattle.model_rows.specs.Usage.{blocks_if, is_covered_by}
-use Rattle.model_rows.specs.Fits.{has_variation, fits_item, fits_quota, fits_by, fits_if, is_fit, is_exact_if, is_exact, AllExact}
+use Rattle.model_rows.specs.Fits.{has_variation, fits_item, fits_quota, fits_by, fits_if, is_fit, is_exact_if}
+use Rattle.model_rows.specs.Asked.{is_exact, AllExact}
 use Rattle.model_invariant.specs.Varied.{sold_as, is_sold_as, is_plain, names_as_sold, is_named_as_sold, is_whole, IsProduct, AllWhole}
 use Rattle.model_invariant.specs.Sound.{IsSound}
 use Rattle.model_rows.proofs.EachRow.{all_weaker, all_both, all-row_at}

@@ -6,7 +6,7 @@ use Rattle.base_sorted.specs.Tables.{AreInOrder, with_row, without_row}
 use Rattle.base_values.specs.Texts.{same_text}
 use Rattle.model_rows.specs.declared.rows.Voucher.{Voucher}
 use Rattle.model_rows.specs.Lists.{Lists}
-use Rattle.model_rows.specs.Named.{is_taken}
+use Rattle.model_rows.specs.Asked.{is_taken}
 use Rattle.model_invariant.specs.Reserved.{is_reserved}
 use Rattle.model_invariant.specs.OwnCodes.{code_ending, has_own_code, HaveCodes}
 use Rattle.model_rows.proofs.EachRow.{all-with_row, all-without_row}

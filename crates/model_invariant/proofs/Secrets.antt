@@ -13,8 +13,10 @@ use Rattle.model_rows.specs.declared.rows.Order.{Order}
 use Rattle.model_rows.specs.declared.rows.OrderPos.{OrderPos}
 use Rattle.model_rows.proofs.EachRow.{all_weaker, all-row_at, key-row_at, found_below}
 use Rattle.model_invariant.specs.Changes.{same_place}
-use Rattle.model_invariant.specs.Positions.{by_positionid, AreWhole, of_order, AllHavePositions, AreOfOrders, AreOrdered}
-use Rattle.model_invariant.specs.Secrets.{secret_ending, has_own_secret, HaveUnlikeSecrets}
+use Rattle.model_invariant.specs.Positions.{by_positionid, AreWhole, of_order, AllHavePositions, AreOfOrders}
+use Rattle.model_invariant.specs.Shown.{AreOrdered}
+use Rattle.model_invariant.specs.Secrets.{secret_ending, has_own_secret}
+use Rattle.model_invariant.specs.Shown.{HaveUnlikeSecrets}
 use Rattle.model_invariant.proofs.Apart.{AreApart}
 use Rattle.model_invariant.proofs.ByNumber.{same_number, same_length, all_unsorted, counted_apart, counted_small, unsorted_apart}
 use Rattle.model_invariant.proofs.Endings.{before_end, ends_own, ends_is, last_number}

@@ -5,7 +5,8 @@ use Rattle.model_rows.specs.declared.rows.CheckinList.{CheckinList}
 use Rattle.model_rows.specs.declared.rows.Checkin.{Checkin}
 use Rattle.model_rows.specs.Lists.{State}
 use Rattle.model_rows.specs.Numbered.{with_checkin_list, with_checkin}
-use Rattle.model_invariant.specs.Checkins.{HasItems, IsCheckedIn, is_repeated}
+use Rattle.model_invariant.specs.Checkins.{HasItems, IsCheckedIn}
+use Rattle.model_invariant.specs.Shown.{is_repeated}
 use Rattle.model_invariant.specs.Limits.{IsLimitedCheckinList, IsLimitedCheckin}
 use Rattle.model_invariant.specs.Sound.{IsSound}
 use Rattle.model_rows.proofs.EachRow.{all-with_row}

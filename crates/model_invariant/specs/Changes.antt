@@ -14,7 +14,8 @@ use Rattle.model_rows.specs.declared.changes.Change.{Change}
 use Rattle.model_rows.specs.declared.changes.Change.TheVariants.{PutItem, PutVariation, PutQuota, PutVoucher, PutCart, PutOrder, PutPosition, PutWaiting, DropVoucher, DropCart, DropWaiting, PutCheckinList, PutCheckin}
 use Rattle.model_rows.specs.Lists.{Lists}
 use Rattle.model_rows.specs.Change.{after_change, after_all}
-use Rattle.model_rows.specs.Named.{is_taken, is_used}
+use Rattle.model_rows.specs.Named.{is_used}
+use Rattle.model_rows.specs.Asked.{is_taken}
 use Rattle.model_invariant.specs.Checkins.{has_item, IsCheckedIn, repeats}
 use Rattle.model_invariant.specs.Sent.{voucher_stands}
 use Rattle.model_invariant.specs.Targets.{item_stands, variation_stands, quota_stands}

@@ -1,6 +1,6 @@
 -- The door: lists, by which tickets are checked in, and check-ins.
 use Rattle.std.specs.Prelude.{◌≡◌, ℕ, Bool, true, false, ◌&&◌, ◌==◌, is_some, List, [], ◌∷◌, Option, Some, None}
-use Rattle.std.specs.List.{list_any, AllByRecursion}
+use Rattle.std.specs.List.{AllByRecursion}
 use Rattle.base_sorted.specs.Tables.{row_at, AreInOrder}
 use Rattle.base_values.specs.Texts.{same_text}
 use Rattle.model_catalogue.specs.declared.rows.Item.{Item}
@@ -32,10 +32,6 @@ same_nonce (Some nonce) (Some other) = same_text nonce other
 -- two check-ins of one position by one list, with one nonce
 abbrev pub repeats : Checkin → Checkin → Bool
 repeats a b = a.list == b.list && (a.position == b.position && same_nonce a.nonce b.nonce)
-
--- one of these has its list, its position and its nonce
-abbrev pub is_repeated : Checkin → List Checkin → Bool
-is_repeated row checkins = list_any (λ c. repeats c row) checkins
 
 -- no list has a nonce twice for a position
 abbrev pub AreOnce : List Checkin → Type 0

@@ -9,6 +9,7 @@ pub mod OwnCodes
 pub mod MadeCodes
 pub mod Secrets
 pub mod Positions
+pub mod Shown
 pub mod Sent
 pub mod Limits
 pub mod Sound

@@ -1,5 +1,5 @@
 -- Orders and their positions.
-use Rattle.std.specs.Prelude.{◌≡◌, ℕ, suc, ◌+◌, ◌<◌, ◌≤◌, ◌==◌, true, false, is_some, List, [], ◌∷◌, length, filter, nat_le, if◌then◌else◌}
+use Rattle.std.specs.Prelude.{◌≡◌, ℕ, suc, ◌+◌, ◌<◌, ◌≤◌, ◌==◌, true, is_some, List, [], ◌∷◌, length, filter, nat_le, if◌then◌else◌}
 use Rattle.std.specs.List.{AllByRecursion}
 use Rattle.base_sorted.specs.Tables.{row_at}
 use Rattle.model_rows.specs.declared.rows.Order.{Order}
@@ -36,16 +36,6 @@ pub record AreWhole (positions : List OrderPos) : Type 0 where
   pub few : length positions ≤ most_positions
   pub counted : CountFrom 1 (by_positionid positions)
 
--- no two positions have one number
-abbrev pub HaveOtherNumbers : List OrderPos → Type 0
-HaveOtherNumbers [] = Unit {0}
-HaveOtherNumbers (p ∷ ps) = AllByRecursion (λ q. (p.positionid == q.positionid) ≡ false) ps × HaveOtherNumbers ps
-
--- their numbers are 1 to their count, each once
-pub record AreEachOnce (positions : List OrderPos) : Type 0 where
-  pub within : AllByRecursion (λ p. (1 ≤ p.positionid) × (p.positionid ≤ length positions)) positions
-  pub apart : HaveOtherNumbers positions
-
 -- the positions of an order among these, by id
 abbrev pub of_order : ℕ → List OrderPos → List OrderPos
 of_order order positions = filter (λ p. order == p.order) positions
@@ -60,8 +50,3 @@ pub record AreOfOrders (orders : List Order) (positions : List OrderPos) : Type 
   pub stand : AllByRecursion (λ p. is_some (row_at (λ o. o.id) p.order orders) ≡ true) positions
   -- its secret ends in its order's number and its own there
   pub secrets : AllHaveOwnSecrets positions
-
--- and each order has its positions
-pub record AreOrdered (orders : List Order) (positions : List OrderPos) : Type 0 where
-  pub each : AreOfOrders orders positions
-  pub whole : AllHavePositions orders positions

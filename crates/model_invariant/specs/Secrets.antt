@@ -1,8 +1,7 @@
 -- The secrets of order positions, each of which tells its order and its place there.
-use Rattle.std.specs.Prelude.{◌≡◌, ℕ, Bool, true, false, List, [], ◌∷◌, ◌++◌, nat_eq, codes}
+use Rattle.std.specs.Prelude.{◌≡◌, ℕ, Bool, true, List, ◌++◌, nat_eq, codes}
 use Rattle.std.specs.List.{AllByRecursion, ends_with}
 use Rattle.std.specs.Fmt.{decimal}
-use Rattle.base_values.specs.Texts.{same_text}
 use Rattle.model_rows.specs.declared.rows.OrderPos.{OrderPos}
 
 -- `z`, the order's number, `z` and the position's number in its order, in decimals
@@ -16,8 +15,3 @@ has_own_secret p = ends_with nat_eq p.secret (secret_ending p.order p.positionid
 -- the secret of each position ends in its order and number
 abbrev pub AllHaveOwnSecrets : List OrderPos → Type 0
 AllHaveOwnSecrets positions = AllByRecursion (λ p. has_own_secret p ≡ true) positions
-
--- no two order positions have one secret
-abbrev pub HaveUnlikeSecrets : List OrderPos → Type 0
-HaveUnlikeSecrets [] = Unit {0}
-HaveUnlikeSecrets (p ∷ ps) = AllByRecursion (λ q. same_text p.secret q.secret ≡ false) ps × HaveUnlikeSecrets ps

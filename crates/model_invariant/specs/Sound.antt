@@ -9,7 +9,8 @@ use Rattle.model_invariant.specs.Ids.{AllNumbered}
 use Rattle.model_invariant.specs.Limits.{AllLimited}
 use Rattle.model_invariant.specs.Members.{AllHaveMembers}
 use Rattle.model_invariant.specs.OwnCodes.{HaveCodes}
-use Rattle.model_invariant.specs.Positions.{AreOfOrders, AreOrdered}
+use Rattle.model_invariant.specs.Positions.{AreOfOrders}
+use Rattle.model_invariant.specs.Shown.{AreOrdered}
 use Rattle.model_invariant.specs.Range.{AreInRange}
 use Rattle.model_invariant.specs.Sent.{AllSent}
 use Rattle.model_invariant.specs.Targets.{AllHaveTargets}

@@ -4,8 +4,9 @@ ghost use Rattle.std.specs.Prelude.{◌≡◌, ℕ, ◌≤◌, ◌↔◌, false,
 ghost use Rattle.model_catalogue.specs.declared.rows.Quota.{Quota};
 ghost use Rattle.model_rows.specs.declared.rows.OrderPos.{OrderPos};
 ghost use Rattle.model_rows.specs.Lists.{Lists, State};
-ghost use Rattle.model_invariant.specs.Positions.{CountFrom, AreEachOnce, by_positionid};
-ghost use Rattle.model_invariant.specs.Secrets.{HaveUnlikeSecrets};
+ghost use Rattle.model_invariant.specs.Positions.{CountFrom, by_positionid};
+ghost use Rattle.model_invariant.specs.Shown.{AreEachOnce};
+ghost use Rattle.model_invariant.specs.Shown.{HaveUnlikeSecrets};
 ghost use Rattle.model_invariant.specs.Sound.{IsSound};
 ghost use Rattle.model_rows.specs.Total.{total};
 ghost use Rattle.model_rows.specs.Usage.{usage_of};

@@ -52,12 +52,3 @@ pub record AllFit (lists : Lists) : Type 0 where
 abbrev pub is_exact_if : Product → Option Voucher → Bool
 is_exact_if product None = true
 is_exact_if product (Some voucher) = not voucher.block_quota || (is_some voucher.quota || (is_some voucher.variation || is_none product.variation))
-
--- the same of the voucher of this id; it holds too where none is named or there
-abbrev pub is_exact : Lists → Product → Option ℕ → Bool
-is_exact lists product None = true
-is_exact lists product (Some id) = is_exact_if product (voucher_at id lists)
-
--- of each order position: its voucher, if it blocks, names a quota or a variation, or the product has no variation
-abbrev pub AllExact : Lists → Type 0
-AllExact lists = AllByRecursion (λ p. is_exact lists p.product p.voucher ≡ true) lists.positions

@@ -1,8 +1,6 @@
 -- No voucher is named more often than it may be used.
-use Rattle.std.specs.Prelude.{ℕ, ◌+◌, ◌≤◌, Bool, true, nat_lt, nat_le, ◌&&◌, List, Option, Some, None, count_by}
+use Rattle.std.specs.Prelude.{ℕ, ◌+◌, ◌≤◌, Bool, true, nat_lt, nat_le, List, Option, Some, None, count_by}
 use Rattle.std.specs.List.{list_all, AllByRecursion}
-use Rattle.model_catalogue.specs.declared.rows.Quota.{Quota}
-use Rattle.model_catalogue.specs.Member.{is_in}
 use Rattle.model_rows.specs.declared.rows.Voucher.{Voucher}
 use Rattle.model_rows.specs.declared.rows.OrderPos.{OrderPos}
 use Rattle.model_rows.specs.Conditions.{holds}
@@ -12,10 +10,6 @@ use Rattle.model_rows.specs.Usage.{redeemed}
 -- the uses that are held in carts
 abbrev pub held : ℕ → ℕ → Lists → ℕ
 held at id lists = count_by (holds at id) lists.carts
-
--- those of them that are for a product of the quota
-abbrev pub held_in : ℕ → Quota → ℕ → Lists → ℕ
-held_in at quota id lists = count_by (λ c. holds at id c && is_in quota c.product) lists.carts
 
 -- its uses in orders and in live carts are no more than it may have
 abbrev pub HasHeadroom : ℕ → Lists → Voucher → Type 0

@@ -12,6 +12,7 @@ pub mod Refills
 pub mod Headroom
 pub mod Budgets
 pub mod Fits
+pub mod Asked
 pub mod Named
 pub mod Ordered
 pub mod Numbered

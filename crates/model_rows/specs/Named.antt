@@ -1,28 +1,14 @@
 -- Vouchers by their codes, and what names a voucher.
-use Rattle.std.specs.Prelude.{◌≡◌, ℕ, Bool, false, ◌&&◌, ◌||◌, not, ◌==◌, List, [], ◌∷◌, Option, find, filter}
+use Rattle.std.specs.Prelude.{◌≡◌, ℕ, Bool, false, ◌||◌, List, [], ◌∷◌, Option, find}
 use Rattle.std.specs.List.{list_any, AllByRecursion}
 use Rattle.base_values.specs.Texts.{same_text}
 use Rattle.model_rows.specs.declared.rows.Voucher.{Voucher}
-use Rattle.model_rows.specs.declared.rows.CartPos.{CartPos}
-use Rattle.model_rows.specs.declared.rows.OrderPos.{OrderPos}
 use Rattle.model_rows.specs.Conditions.{names}
 use Rattle.model_rows.specs.Lists.{Lists}
 
 -- the first voucher with that code
 abbrev pub voucher_of : List ℕ → Lists → Option Voucher
 voucher_of code lists = find (λ v. same_text v.code code) lists.vouchers
-
--- the first order position with that secret
-abbrev pub with_secret : List ℕ → Lists → Option OrderPos
-with_secret secret lists = find (λ p. same_text p.secret secret) lists.positions
-
--- the cart positions that name a voucher, dead ones too, by id
-abbrev pub carts_naming : ℕ → Lists → List CartPos
-carts_naming id lists = filter (λ c. names id c.voucher) lists.carts
-
--- a voucher other than this one has the code
-abbrev pub is_taken : ℕ → List ℕ → Lists → Bool
-is_taken id code lists = list_any (λ v. same_text v.code code && not (v.id == id)) lists.vouchers
 
 -- no two vouchers have one code
 abbrev pub AreUnlike : List Voucher → Type 0

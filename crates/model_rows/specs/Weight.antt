@@ -1,6 +1,6 @@
 -- How much room changes need in a book: one each, and for a put quota one more for each of its members.
 use Rattle.std.specs.Prelude.{ℕ, ◌+◌, List, [], ◌∷◌}
-use Rattle.model_catalogue.specs.Member.{quota_weight}
+use Rattle.model_catalogue.specs.Kept.{quota_weight}
 use Rattle.model_rows.specs.declared.changes.Change.{Change}
 use Rattle.model_rows.specs.declared.changes.Change.TheVariants.{PutQuota}
 

@@ -1,9 +1,9 @@
 //! Queries of check-in lists, and of the positions that belong to them.
 
-ghost use Rattle.std.specs.Prelude.{◌≡◌, IfOk, map};
-ghost use Rattle.office_service.specs.Machine.{list_of, one_of, status_told, ticket_if};
+ghost use Rattle.std.specs.Prelude.{◌≡◌, IfOk, map, take, drop};
+ghost use Rattle.office_service.specs.Machine.{belonging, list_of, one_of, show_ticket, status_told, ticket_if};
 ghost use Rattle.model_rows.specs.Lists.{checkin_list_at};
-ghost use Rattle.office_commands.specs.Told.{IfOkIs, tickets_behind};
+ghost use Rattle.office_commands.specs.Told.{IfOkIs};
 
 use crate::lists::no_page;
 use crate::office::Office;
@@ -87,7 +87,8 @@ impl<B: Book> Office<B> {
         list: &CheckinList,
         before: usize,
     ) -> Result<List<Shown>, AllocError>
-        ensures { IfOkIs result (tickets_behind before list.now self.now.state.lists) }
+        ensures { IfOkIs result (let lists = self.now.state.lists in
+            map (show_ticket list.now lists) (take 50 (drop before (belonging list.now lists)))) }
     {
         let tickets = positions(self.book(), alloc, list, before, 50)?;
         Ok(List::new(all_shown(alloc, tickets)?))

@@ -147,7 +147,8 @@ none-held words p fs a none = sym (some-find (λ (k : Kept). repeats a (now p fs
 
 -- ---- a repeat before a day has passed
 
-pub told_again : (words : Reply → Response) (p : Opening) (ds : List Delivery) (a : Arrival) (es : List Delivery) (b : Arrival) → ToldAgain words p ds a es b
+pub told_again : (words : Reply → Response) (p : Opening) (ds : List Delivery) (a : Arrival) (es : List Delivery) (b : Arrival)
+    → ToldAgain words (record { opening = p; before = ds; earlier = a; between = es; later = b })
 told_again words p ds a es b first same soon =
     let fs = firsts p ds in
     let all = firsts p (ds ++ came a ∷ es) in
@@ -200,7 +201,8 @@ none-differ a b n (f ∷ fs) same (differs, all) =
     })))
     (none-differ a b n fs same all)
 
-pub executed_anew : (p : Opening) (ds : List Delivery) (a : Arrival) (es : List Delivery) (b : Arrival) → ExecutedAnew p ds a es b
+pub executed_anew : (p : Opening) (ds : List Delivery) (a : Arrival) (es : List Delivery) (b : Arrival)
+    → ExecutedAnew (record { opening = p; before = ds; earlier = a; between = es; later = b })
 executed_anew p ds a es b first others same late =
     let fs = firsts p ds in
     let all = firsts p (ds ++ came a ∷ es) in

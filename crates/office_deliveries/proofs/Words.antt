@@ -15,7 +15,8 @@ use Rattle.model_answers.specs.ShopView.{ShopView, own_row, with_kept}
 use Rattle.model_answers.proofs.Lists.{filter-filter}
 use Rattle.office_deliveries.specs.Deliveries.{Opening, Delivery, is_write, done, held_for, firsts, office, ever_kept}
 use Rattle.office_deliveries.specs.Shops.{Stands, moment_of, own, executes, executed_at, acted_by, acted, shown, served}
-use Rattle.office_deliveries.specs.Histories.{Running, MayLeave, IsRunning, IsAmong, AreKeyless, also_undecided, after_answer, after_none, after_act, event_of, Happens}
+use Rattle.office_deliveries.specs.Histories.{Running, MayLeave, IsRunning, IsAmong, also_undecided, after_answer, after_none, after_act, event_of, Happens}
+use Rattle.office_deliveries.specs.Shops.{AreKeyless}
 
 -- ---- what a write without key makes of a shop
 

@@ -18,19 +18,32 @@ pub record HasTheKeyOf (a b : Arrival) : Type 0 where
 abbrev pub IsAnother : Arrival → Delivery → Type 0
 IsAnother a d = HasTheKeyOf a d.arrival → ⊥
 
-module _ (words : Reply → Response) where
-  -- A repeat of an executed write that comes before a day has passed is told what that one was told, whatever it asks for
-  -- and whatever came between.
-  abbrev pub ToldAgain : Opening → List Delivery → Arrival → List Delivery → Arrival → Type 0
-  ToldAgain p ds a es b =
-      is_first p (firsts p ds) (came a) ≡ true → HasTheKeyOf a b → now p (firsts p (ds ++ came a ∷ es)) b < now p (firsts p ds) a + a_day
-      → told words p (ds ++ came a ∷ es) (came b) ≡ told words p ds (came a)
+-- two arrivals at an opening: these arrivals come before the earlier one, and these between the two
+pub record TwoArrivals : Type 0 where
+  pub opening : Opening
+  pub before : List Delivery
+  pub earlier : Arrival
+  pub between : List Delivery
+  pub later : Arrival
+
+-- A repeat of an executed write that comes before a day has passed is told what that one was told, whatever it asks for
+-- and whatever came between.
+abbrev pub ToldAgain : (Reply → Response) → TwoArrivals → Type 0
+ToldAgain words t =
+    let p = t.opening in
+    let till_later = t.before ++ came t.earlier ∷ t.between in
+    is_first p (firsts p t.before) (came t.earlier) ≡ true → HasTheKeyOf t.earlier t.later
+    → now p (firsts p till_later) t.later < now p (firsts p t.before) t.earlier + a_day
+    → told words p till_later (came t.later) ≡ told words p t.before (came t.earlier)
 
 -- Where a day has passed and no other request with the key came between, it is executed anew.
-abbrev pub ExecutedAnew : Opening → List Delivery → Arrival → List Delivery → Arrival → Type 0
-ExecutedAnew p ds a es b =
-    is_first p (firsts p ds) (came a) ≡ true → AllByRecursion (IsAnother a) es → HasTheKeyOf a b → now p (firsts p ds) a + a_day ≤ now p (firsts p (ds ++ came a ∷ es)) b
-    → is_first p (firsts p (ds ++ came a ∷ es)) (came b) ≡ true
+abbrev pub ExecutedAnew : TwoArrivals → Type 0
+ExecutedAnew t =
+    let p = t.opening in
+    let till_later = t.before ++ came t.earlier ∷ t.between in
+    is_first p (firsts p t.before) (came t.earlier) ≡ true → AllByRecursion (IsAnother t.earlier) t.between → HasTheKeyOf t.earlier t.later
+    → now p (firsts p t.before) t.earlier + a_day ≤ now p (firsts p till_later) t.later
+    → is_first p (firsts p till_later) (came t.later) ≡ true
 
 -- two executions under one key of one token are a day apart, or more
 abbrev pub AreADayApart : List First → Type 0

@@ -1,6 +1,5 @@
 -- Histories: arrivals, and crashes, after each of which the shop is opened again.
 use Rattle.std.specs.Prelude.{◌≡◌, ◌⊎◌, ⊤, List, [], ◌∷◌, ◌++◌, if◌then◌else◌}
-use Rattle.std.specs.List.{AllByRecursion}
 use Rattle.base_values.specs.declared.answer.Answer.{Answer}
 use Rattle.base_values.specs.declared.answer.Answer.TheVariants.{Decided, Unavailable}
 use Rattle.base_values.specs.declared.answer.Response.{Response}
@@ -30,10 +29,6 @@ IsAmong a (x ∷ xs) = (x ≡ a) ⊎ IsAmong a xs
 -- a write that isn't answered is undecided from then on
 abbrev pub also_undecided : Arrival → List Arrival → List Arrival
 also_undecided a open_ = if is_write a.request then a ∷ open_ else open_
-
--- none of these arrivals has a key
-abbrev pub AreKeyless : List Arrival → Type 0
-AreKeyless open_ = AllByRecursion (λ a. a.key ≡ []) open_
 
 -- A running shop, and the writes that had no answer, or 503, since the last crash and since the last write that was executed.
 pub record Running : Type 0 where

@@ -10,6 +10,7 @@ use Rattle.model_answers.specs.declared.kept.Kept.{Kept}
 use Rattle.office_deliveries.specs.Deliveries.{Opening, Delivery, First, came, turned_away, done, is_write, held_for, firsts, office, kept}
 use Rattle.model_answers.specs.KeptAnswers.{AreOneForEachKey}
 use Rattle.model_answers.specs.ShopView.{ShopView, own_row, with_kept}
+use Rattle.std.specs.List.{AllByRecursion}
 pub use Rattle.office_step.specs.Step.{moment_at}
 
 -- the moment of an arrival: the clock's, but never before the office's
@@ -103,3 +104,7 @@ module _ (words : Reply → Response) where
 abbrev pub IsDecided : Answer → Type 0 → Type 0
 IsDecided (Decided told) P = P
 IsDecided Unavailable P = ⊤
+
+-- none of these arrivals has a key
+abbrev pub AreKeyless : List Arrival → Type 0
+AreKeyless open_ = AllByRecursion (λ a. a.key ≡ []) open_

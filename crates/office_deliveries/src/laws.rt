@@ -10,8 +10,9 @@ ghost use Rattle.office_deliveries.specs.Deliveries.{Delivery, Opening, firsts, 
 ghost use Rattle.model_answers.specs.KeptAnswers.{AreOneForEachKey};
 ghost use Rattle.model_answers.specs.ShopView.{ShopView};
 ghost use Rattle.office_deliveries.specs.Shops.{ServesAll, Stands, delivered_all, stood};
-ghost use Rattle.office_deliveries.specs.Headline.{ToldAgain, ExecutedAnew, AreADayApart};
-ghost use Rattle.office_deliveries.specs.Histories.{Event, Running, Happens, ComesTo, MayLeave, AreKeyless, IsRunning, Reopened, after_act, event_of, opened};
+ghost use Rattle.office_deliveries.specs.Headline.{TwoArrivals, ToldAgain, ExecutedAnew, AreADayApart};
+ghost use Rattle.office_deliveries.specs.Histories.{Event, Running, Happens, ComesTo, MayLeave, IsRunning, Reopened, after_act, event_of, opened};
+ghost use Rattle.office_deliveries.specs.Shops.{AreKeyless};
 
 use model_answers::Tables;
 
@@ -33,14 +34,12 @@ pub fn openings_stand()
 /// A repeat that comes before a day has passed since its first arrival was executed is told what that was told, whatever it
 /// asks for, and whatever came between.
 pub fn repeats_are_told_again()
-    ensures { (words : Reply → Response) (p : Opening) (ds : List Delivery)
-        (a : Arrival) (es : List Delivery) (b : Arrival) → ToldAgain words p ds a es b }
+    ensures { (words : Reply → Response) (t : TwoArrivals) → ToldAgain words t }
 {}
 
 /// One that comes when a day has passed, and no other request with its key between, is executed anew.
 pub fn after_a_day_it_is_executed_anew()
-    ensures { (p : Opening) (ds : List Delivery)
-        (a : Arrival) (es : List Delivery) (b : Arrival) → ExecutedAnew p ds a es b }
+    ensures { (t : TwoArrivals) → ExecutedAnew t }
 {}
 
 /// Two executions under one key of one token are a day apart, or more: within a day each request acts once.

@@ -1,15 +1,24 @@
 -- What a call leaves of a shop; of most it is said where the store has returned what was written.
-use Rattle.std.specs.Prelude.{◌≡◌, ◌⊎◌, List, [], ◌∷◌, ◌++◌, true}
+use Rattle.std.specs.Prelude.{◌≡◌, ◌⊎◌, ℕ, List, [], ◌∷◌, ◌++◌, true}
 use Rattle.base_values.specs.declared.answer.Answer.{Answer}
+use Rattle.base_values.specs.declared.answer.Answer.TheVariants.{Unavailable}
 use Rattle.base_values.specs.declared.answer.Response.{Response}
+use Rattle.base_values.specs.declared.draw.Draw.{Draw}
+use Rattle.book_tally.specs.declared.shifts.Drafted.{Drafted}
+use Rattle.model_answers.specs.CallsLeave.{KnowsStill, MayLeaveNoMore}
 use Rattle.model_answers.specs.declared.kept.Kept.{Kept}
+use Rattle.model_answers.specs.House.{House}
 use Rattle.model_answers.specs.ShopView.{ShopView, IsSame}
 use Rattle.model_commands.specs.declared.replies.Reply.{Reply}
 use Rattle.model_invariant.specs.Sound.{IsSound}
+use Rattle.model_rows.specs.Change.{applied}
 use Rattle.model_rows.specs.Lists.{State}
 use Rattle.office_deliveries.specs.declared.arrival.Arrival.{Arrival}
-use Rattle.office_deliveries.specs.Deliveries.{Opening, Delivery, told}
-use Rattle.office_deliveries.specs.Shops.{Views, StandsFor, delivered, executes, served}
+use Rattle.office_deliveries.specs.declared.arrival.Request.{Request}
+use Rattle.office_deliveries.specs.Deliveries.{Opening, Delivery, done, told}
+use Rattle.office_deliveries.specs.Histories.{Running, IsRunning, TellsIt, after_act}
+use Rattle.office_deliveries.specs.Shops.{Views, StandsFor, IsAnswered, IsDecided, delivered, executes, served}
+use Rattle.office_step.specs.IsStep.{HasShifts}
 use Rattle.office_once.specs.OpenShop.{OpenShop}
 
 -- this is so of each shop that its tables and its office were those of before
@@ -37,3 +46,36 @@ abbrev pub StandsWith : {T W : Type 0} → (Reply → Response) → (T → State
 StandsWith words holds a answer old new =
     (p : Opening) (ds : List Delivery) → StandsFor words holds old.tables old.state p ds
     → StandsFor words holds new.tables new.state p (ds ++ delivered a answer ∷ []) × (told words p ds (delivered a answer) ≡ answer)
+
+-- a shop that was running runs on with this arrival, and tells what the shop tells
+abbrev pub RunsOn : {T W : Type 0} → (Reply → Response) → (T → State → List Kept → Type 0) → (T → ShopView → Type 0) → Arrival → Answer → OpenShop T W → OpenShop T W → Type 0
+RunsOn words holds may_leave a answer old new =
+    (r : Running) → IsRunning words holds may_leave old.tables old.state r
+    → IsRunning words holds may_leave new.tables new.state (after_act words a answer r) × TellsIt words a answer r.shop
+
+-- it changes this and tells this, as the request asks for; what that leaves is sound, and its counts shift so
+pub record Decides (words : Reply → Response) (request : Request) (at : ℕ) (draw : Draw) (state : State) (drafted : Drafted) (response : Response) : Type 0 where
+  pub made : (let both : State × Response = (applied drafted.changes at state, response) in both ≡ done words request at draw state)
+  pub sound : IsSound (applied drafted.changes at state)
+  pub shifts : HasShifts at state.lists drafted
+
+module _ {T W : Type 0} (is_sure : T → Type 0) (knows : T → House → Type 0) (holds : T → State → List Kept → Type 0) (may_leave : T → ShopView → Type 0) where
+  -- it asks the tables and changes nothing; this is so of what it found
+  pub record OnlyAsks (old new : OpenShop T W) (Found : Type 0) : Type 0 where
+    pub wording : new.wording ≡ old.wording
+    pub office : new.state ≡ old.state
+    pub sure : is_sure new.tables → is_sure old.tables
+    pub house : KnowsStill is_sure knows old.tables new.tables
+    pub found : Found
+    pub same : StaysItsShop is_sure holds old new
+    pub crash : MayLeaveNoMore may_leave old.tables new.tables
+
+  -- a write is answered so
+  pub record Writes (words : Reply → Response) (a : Arrival) (answer : Answer) (old new : OpenShop T W) : Type 0 where
+    pub wording : new.wording ≡ old.wording
+    pub office : answer ≡ Unavailable → new.state ≡ old.state
+    pub sure : is_sure new.tables → is_sure old.tables
+    pub house : KnowsStill is_sure knows old.tables new.tables
+    pub answered : OfItsShop is_sure holds old new (λ v. IsAnswered words a v answer (λ w. Views holds new.tables new.state w))
+    pub crash : is_sure new.tables → MayLeaveMade holds may_leave old new (λ v. (served words a v).0)
+    pub settled : is_sure new.tables → IsDecided answer (LeavesServed words holds may_leave a old new)

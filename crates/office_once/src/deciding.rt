@@ -7,6 +7,7 @@ ghost use Rattle.model_invariant.specs.Sound.{IsSound};
 ghost use Rattle.office_step.specs.IsStep.{HasShifts};
 ghost use Rattle.office_deliveries.specs.declared.arrival.Request.TheVariants.{Write};
 ghost use Rattle.office_deliveries.specs.Deliveries.{is_write, done};
+ghost use Rattle.office_once.specs.CallsLeave.{Decides};
 
 use crate::shop::Shop;
 use base_values::{Draw, Moment, Response};
@@ -29,10 +30,8 @@ impl<T: Tables, B: Dues, W: Wording> Shop<T, B, W> {
         command: &Command,
     ) -> Result<(Drafted, Response), AllocError>
         requires { self.now.state.moment ≤ at }
-        ensures done { IfOk result (λ r. (applied r.0.changes at self.now.state, r.1)
-            ≡ done (W.words self.now.wording) (Write command.now) at draw self.now.state) }
-        ensures sound { IfOk result (λ r. IsSound (applied r.0.changes at self.now.state)) }
-        ensures shifts { IfOk result (λ r. HasShifts at self.now.state.lists r.0) }
+        ensures { IfOk result (λ r. Decides (W.words self.now.wording) (Write command.now)
+            at draw self.now.state r.0 r.1) }
     {
         let (drafted, reply) = self.office.decide(alloc, at, draw, command)?;
         let response = worded(&self.wording, alloc, reply)?;
@@ -61,10 +60,8 @@ impl<T: Tables, B: Dues, W: Wording> Shop<T, B, W> {
     ) -> Result<(Drafted, Response), AllocError>
         requires write { is_write request ≡ true }
         requires later { self.now.state.moment ≤ at }
-        ensures done { IfOk result (λ r. (applied r.0.changes at self.now.state, r.1)
-            ≡ done (W.words self.now.wording) request at draw self.now.state) }
-        ensures sound { IfOk result (λ r. IsSound (applied r.0.changes at self.now.state)) }
-        ensures shifts { IfOk result (λ r. HasShifts at self.now.state.lists r.0) }
+        ensures { IfOk result (λ r. Decides (W.words self.now.wording) request
+            at draw self.now.state r.0 r.1) }
     {
         match request {
             // The command is let go by name, as a whole: part by part is a way of the proof for each of its kinds.

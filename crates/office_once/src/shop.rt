@@ -2,9 +2,9 @@
 
 ghost use Rattle.std.specs.Prelude.{◌≡◌, ◌≤◌, IfOk};
 ghost use Rattle.model_invariant.specs.Sound.{IsSound};
-ghost use Rattle.model_answers.specs.CallsLeave.{OfItsHouse, KnowsStill, MayLeaveNoMore};
+ghost use Rattle.model_answers.specs.CallsLeave.{OfItsHouse};
 ghost use Rattle.office_deliveries.specs.Shops.{moment_at};
-ghost use Rattle.office_once.specs.CallsLeave.{StaysItsShop};
+ghost use Rattle.office_once.specs.CallsLeave.{OnlyAsks};
 
 use base_values::Moment;
 use book_usage::Book;
@@ -53,14 +53,9 @@ impl<T: Tables, B: Book, W: Wording> Shop<T, B, W> {
 
     /// The number of the token with this SHA-256 digest, if it is known. Nothing changes.
     pub fn token_of(&mut self, digest: &[u8; 32]) -> Result<Option<u64>, TablesError>
-        ensures office { self.new.state ≡ self.old.state }
-        ensures wording { self.new.wording ≡ self.old.wording }
-        ensures sure { T.sure self.new.tables → T.sure self.old.tables }
-        ensures found { OfItsHouse T.sure T.knows self.old.tables self.new.tables
-            (λ house. IfOk result (λ number. number ≡ house.tokens digest.now)) }
-        ensures same { StaysItsShop T.sure T.holds self.old self.new }
-        ensures house { KnowsStill T.sure T.knows self.old.tables self.new.tables }
-        ensures crash { MayLeaveNoMore T.may_leave self.old.tables self.new.tables }
+        ensures { OnlyAsks T.sure T.knows T.holds T.may_leave self.old self.new
+            (OfItsHouse T.sure T.knows self.old.tables self.new.tables
+            (λ house. IfOk result (λ number. number ≡ house.tokens digest.now))) }
     {
         self.tables.token_of(digest)
     }

@@ -2,13 +2,12 @@
 
 ghost use Rattle.std.specs.Prelude.{◌≡◌, ◌≤◌, None, IfOk, OnOk, OnErr, true};
 ghost use Rattle.base_values.specs.declared.answer.Answer.TheVariants.{Unavailable};
-ghost use Rattle.model_answers.specs.CallsLeave.{KnowsStill, MayLeaveNoMore};
+ghost use Rattle.model_answers.specs.CallsLeave.{KnowsStill};
 ghost use Rattle.model_answers.specs.KeptAnswers.{told_by};
 ghost use Rattle.model_answers.specs.ShopView.{ShopView, IsSame, listed, own_row};
 ghost use Rattle.office_deliveries.specs.Deliveries.{is_write};
-ghost use Rattle.office_deliveries.specs.Histories.{Running, IsRunning, TellsIt, after_act};
 ghost use Rattle.office_deliveries.specs.Shops.{Views, IsAnswered, IsDecided, served, executed_at};
-ghost use Rattle.office_once.specs.CallsLeave.{OfItsShop, StaysItsShop, MayLeaveMade, LeavesServed, StandsWith};
+ghost use Rattle.office_once.specs.CallsLeave.{OfItsShop, MayLeaveMade, LeavesServed, StandsWith, RunsOn, OnlyAsks, Writes};
 
 use crate::shop::Shop;
 use base_values::{Answer, Moment, Response};
@@ -75,14 +74,9 @@ impl<T: Tables, B: Dues, W: Wording> Shop<T, B, W> {
         arrival: &Arrival,
         at: Moment,
     ) -> Result<Option<Response>, TablesError>
-        ensures wording { self.new.wording ≡ self.old.wording }
-        ensures office { self.new.state ≡ self.old.state }
-        ensures sure { T.sure self.new.tables → T.sure self.old.tables }
-        ensures house { KnowsStill T.sure T.knows self.old.tables self.new.tables }
-        ensures found { OfItsShop T.sure T.holds self.old self.new (λ v. IfOk result (λ told.
-            told ≡ told_by arrival.now.token arrival.now.key at v.kept)) }
-        ensures same { StaysItsShop T.sure T.holds self.old self.new }
-        ensures crash { MayLeaveNoMore T.may_leave self.old.tables self.new.tables }
+        ensures { OnlyAsks T.sure T.knows T.holds T.may_leave self.old self.new
+            (OfItsShop T.sure T.holds self.old self.new (λ v. IfOk result (λ told.
+            told ≡ told_by arrival.now.token arrival.now.key at v.kept))) }
     {
         if arrival.key.is_empty() {
             return Ok(None);
@@ -94,17 +88,8 @@ impl<T: Tables, B: Dues, W: Wording> Shop<T, B, W> {
     // Does a write, by the answer that is kept for its key.
     fn write(&mut self, alloc: Global, arrival: Arrival) -> Answer
         requires { is_write arrival.request ≡ true }
-        ensures wording { self.new.wording ≡ self.old.wording }
-        ensures office { result ≡ Unavailable → self.new.state ≡ self.old.state }
-        ensures sure { T.sure self.new.tables → T.sure self.old.tables }
-        ensures house { KnowsStill T.sure T.knows self.old.tables self.new.tables }
-        ensures answered { OfItsShop T.sure T.holds self.old self.new
-            (λ v. IsAnswered (W.words self.old.wording) arrival v result
-            (λ w. Views T.holds self.new.tables self.new.state w)) }
-        ensures crash { T.sure self.new.tables → MayLeaveMade T.holds T.may_leave self.old self.new
-            (λ v. (served (W.words self.old.wording) arrival v).0) }
-        ensures settled { T.sure self.new.tables → IsDecided result (LeavesServed
-            (W.words self.old.wording) T.holds T.may_leave arrival self.old self.new) }
+        ensures { Writes T.sure T.knows T.holds T.may_leave (W.words self.old.wording)
+            arrival result self.old self.new }
     {
         let at = self.moment_at(arrival.clock);
         // Where it isn't carried out it is let go by name, as a whole: part by part is a way of the proof for each of its requests.
@@ -139,11 +124,8 @@ impl<T: Tables, B: Dues, W: Wording> Shop<T, B, W> {
             (λ w. Views T.holds self.new.tables self.new.state w)) }
         ensures stands { T.sure self.new.tables
             → StandsWith (W.words self.old.wording) T.holds arrival result self.old self.new }
-        ensures running { T.sure self.new.tables → (r : Running) →
-            let words = W.words self.old.wording in
-            IsRunning words T.holds T.may_leave self.old.tables self.old.state r
-            → IsRunning words T.holds T.may_leave self.new.tables self.new.state
-            (after_act words arrival result r) × TellsIt words arrival result r.shop }
+        ensures running { T.sure self.new.tables → RunsOn (W.words self.old.wording)
+            T.holds T.may_leave arrival result self.old self.new }
         ensures crash { T.sure self.new.tables → MayLeaveMade T.holds T.may_leave self.old self.new
             (λ v. (served (W.words self.old.wording) arrival v).0) }
         ensures settled { T.sure self.new.tables → IsDecided result (LeavesServed

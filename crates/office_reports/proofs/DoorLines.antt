@@ -8,7 +8,8 @@ use Rattle.model_rows.specs.declared.rows.CheckinList.{CheckinList}
 use Rattle.model_rows.specs.Lists.{Lists}
 use Rattle.model_rows.proofs.Found.{each_found}
 use Rattle.decide_door.specs.Belongs.{is_for}
-use Rattle.office_reports.specs.Entered.{all_entries, entries_of, item_entries, items_on}
+use Rattle.office_reports.specs.Entered.{entries_of, item_entries, items_on}
+use Rattle.office_reports.specs.Counted.{all_entries}
 use Rattle.office_reports.specs.DoorText.{door_line}
 use Rattle.office_reports.specs.ItemLines.{door_line_if, door_lines}
 

@@ -17,7 +17,8 @@ use Rattle.decide_door.specs.Last.{checkins_of, has_entry, is_of}
 use Rattle.decide_door.specs.Status.{has_entered, is_inside}
 use Rattle.office_reports.specs.declared.entries.Entries.{Entries}
 use Rattle.office_reports.specs.declared.entries.ItemEntries.{ItemEntries}
-use Rattle.office_reports.specs.Entered.{all_entries, come, entries_of, item_entries, items_on}
+use Rattle.office_reports.specs.Entered.{come, entries_of, item_entries, items_on}
+use Rattle.office_reports.specs.Counted.{all_entries}
 use Rattle.office_reports.specs.Counted.{AllAtMost, AreAtMost, counted, counted_all, counted_where, one_if, unvisited, with_ticket}
 use Rattle.base_sorted.proofs.Mapped.{map_two, map_absent, map_set, mapped_in_order}
 

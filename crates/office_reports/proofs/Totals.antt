@@ -2,6 +2,7 @@
 use Rattle.std.proofs.Common.{◌≡◌, ℕ, zero, suc, ◌+◌, ◌*◌, ◌<◌, ◌≤◌, List, [], ◌∷◌, ◌++◌, length, get_or, drop, map, refl, sym, ap, ap₂, ◌∙◌, arith}
 use Rattle.std.specs.List.{concat}
 use Rattle.std.proofs.lemmas.List.{append_assoc, drop_more, drop_all}
+use Rattle.model_catalogue.specs.Limits.{most_rows}
 use Rattle.model_catalogue.specs.declared.rows.Item.{Item}
 use Rattle.model_rows.specs.Lists.{Lists}
 use Rattle.office_reports.specs.declared.sales.Sales.{Sales}
@@ -36,10 +37,10 @@ few_at n (r ∷ rs) (suc i) d lt few = few_at n rs i d (omega (arith, lt)) few.1
 abbrev pub Summed : List ItemSales → ℕ → Sales → Type 0
 Summed rows i total = record {
   sum : with_sales total (total_of (drop i rows)) ≡ total_of rows;
-  few : IsFew (i * 1000000) total;
+  few : IsFew (i * most_rows) total;
 }
 
-pub sum_more : (rows : List ItemSales) (i : ℕ) (row : ItemSales) (total : Sales) → i < length rows → row ≡ get_or rows i row → IsFew 1000000 row.sales → Summed rows i total → Summed rows (i + 1) (with_sales total row.sales)
+pub sum_more : (rows : List ItemSales) (i : ℕ) (row : ItemSales) (total : Sales) → i < length rows → row ≡ get_or rows i row → IsFew most_rows row.sales → Summed rows i total → Summed rows (i + 1) (with_sales total row.sales)
 sum_more rows i row total at is few so_far =
     let left : drop i rows ≡ row ∷ drop (i + 1) rows = drop_more rows i row at ∙ ap (λ (r : ItemSales). r ∷ drop (i + 1) rows) (sym is) in
     record {

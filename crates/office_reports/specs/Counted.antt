@@ -1,5 +1,5 @@
 -- Who came in, counted in one pass over the positions.
-use Rattle.std.specs.Prelude.{ℕ, ◌+◌, ◌≤◌, ◌==◌, Bool, List, [], ◌∷◌, if◌then◌else◌}
+use Rattle.std.specs.Prelude.{ℕ, ◌+◌, ◌≤◌, ◌==◌, Bool, List, [], ◌∷◌, if◌then◌else◌, map}
 use Rattle.std.specs.List.{AllByRecursion}
 use Rattle.model_catalogue.specs.declared.rows.Item.{Item}
 use Rattle.model_rows.specs.declared.rows.CheckinList.{CheckinList}
@@ -9,6 +9,7 @@ use Rattle.decide_door.specs.Belongs.{belongs}
 use Rattle.decide_door.specs.Status.{has_entered, is_inside}
 use Rattle.office_reports.specs.declared.entries.Entries.{Entries}
 use Rattle.office_reports.specs.declared.entries.ItemEntries.{ItemEntries}
+use Rattle.office_reports.specs.Entered.{items_on, item_entries}
 
 -- no position is counted yet
 abbrev pub nobody : Entries
@@ -52,3 +53,7 @@ pub record AreAtMost (n : ℕ) (e : Entries) : Type 0 where
 -- no count of any item is above n
 abbrev pub AllAtMost : ℕ → List ItemEntries → Type 0
 AllAtMost n rows = AllByRecursion (λ r. AreAtMost n r.entries) rows
+
+-- each item that the list is for, by id, beside who came in with a ticket for it
+abbrev pub all_entries : CheckinList → Lists → List ItemEntries
+all_entries list lists = map (item_entries list lists) (items_on list lists)

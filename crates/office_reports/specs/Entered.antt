@@ -1,5 +1,5 @@
 -- Who came in by a check-in list, item by item.
-use Rattle.std.specs.Prelude.{ℕ, ◌==◌, ◌&&◌, Bool, List, map, filter, count_by}
+use Rattle.std.specs.Prelude.{ℕ, ◌==◌, ◌&&◌, Bool, List, filter, count_by}
 use Rattle.model_catalogue.specs.declared.rows.Item.{Item}
 use Rattle.model_rows.specs.declared.rows.CheckinList.{CheckinList}
 use Rattle.model_rows.specs.declared.rows.OrderPos.{OrderPos}
@@ -28,7 +28,3 @@ items_on list lists = filter (λ i. is_for list i.id) lists.catalogue.items
 -- an item's number, beside who came in with a ticket for it
 abbrev pub item_entries : CheckinList → Lists → Item → ItemEntries
 item_entries list lists item = record { item = item.id; entries = entries_of list lists item }
-
--- each item that the list is for, by id, beside who came in with a ticket for it
-abbrev pub all_entries : CheckinList → Lists → List ItemEntries
-all_entries list lists = map (item_entries list lists) (items_on list lists)

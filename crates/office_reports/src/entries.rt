@@ -2,10 +2,11 @@
 
 ghost use Rattle.std.specs.Prelude.{◌≡◌, ◌≤◌, IfOk, OnOk, filter, length, map};
 ghost use Rattle.base_sorted.specs.Tables.{AreInOrder};
+ghost use Rattle.model_catalogue.specs.Limits.{most_rows};
 ghost use Rattle.model_invariant.specs.Sound.{IsSound};
 ghost use Rattle.decide_door.specs.Belongs.{is_for};
 ghost use Rattle.decide_door.specs.Status.{has_entered, is_inside};
-ghost use Rattle.office_reports.specs.Entered.{all_entries};
+ghost use Rattle.office_reports.specs.Counted.{all_entries};
 ghost use Rattle.office_reports.specs.Counted.{AllAtMost, AreAtMost, counted, counted_all, counted_next, unvisited, with_ticket};
 
 use base_sorted::{Row, place_of};
@@ -96,10 +97,9 @@ fn count_all<B: Book>(
 ) -> Result<(), AllocError>
     requires order { AreInOrder (λ s. s.item) rows.old.items }
     requires few { AllAtMost 0 rows.old.items }
-    requires rows { length (B.state book.now).lists.positions ≤ 1000000 }
-    ensures { OnOk result (rows.new.items
-        ≡ map (counted_all list.now (B.state book.now).lists (B.state book.now).lists.positions)
-        rows.old.items) }
+    requires rows { length (B.state book.now).lists.positions ≤ most_rows }
+    ensures { OnOk result (let lists = (B.state book.now).lists in
+        rows.new.items ≡ map (counted_all list.now lists lists.positions) rows.old.items) }
 {
     for position in book.positions() {
         count_position(rows, book, alloc, list, position)?;
@@ -116,7 +116,7 @@ fn count_position<B: Book>(
     position: &OrderPos,
 ) -> Result<(), AllocError>
     requires order { AreInOrder (λ s. s.item) rows.old.items }
-    requires few { AllAtMost 1000000 rows.old.items }
+    requires few { AllAtMost most_rows rows.old.items }
     ensures { OnOk result (rows.new.items
         ≡ map (counted_next list.now (B.state book.now).lists position.now) rows.old.items) }
 {
@@ -150,7 +150,7 @@ fn came<B: Book>(
 // Counts a position of an item, where that is among these.
 fn count(rows: &mut Vec<ItemEntries>, item: u64, entered: bool, inside: bool)
     requires order { AreInOrder (λ s. s.item) rows.old.items }
-    requires few { AllAtMost 1000000 rows.old.items }
+    requires few { AllAtMost most_rows rows.old.items }
     ensures { rows.new.items ≡ map (counted item entered inside) rows.old.items }
 {
     if let Ok(at) = place_of(rows, item) {
@@ -164,7 +164,7 @@ fn count(rows: &mut Vec<ItemEntries>, item: u64, entered: bool, inside: bool)
 
 // With one more position.
 fn with_ticket(entries: Entries, entered: bool, inside: bool) -> Entries
-    requires { AreAtMost 1000000 entries }
+    requires { AreAtMost most_rows entries }
     ensures { result ≡ with_ticket entered inside entries }
 {
     Entries {

@@ -3,6 +3,7 @@
 ghost use Rattle.std.specs.Prelude.{◌≡◌, ◌≤◌, IfOk, length, map};
 ghost use Rattle.base_values.specs.Money.{last_cents};
 ghost use Rattle.base_sorted.specs.Tables.{AreInOrder};
+ghost use Rattle.model_catalogue.specs.Limits.{most_rows};
 ghost use Rattle.model_invariant.specs.Sound.{IsSound};
 ghost use Rattle.office_reports.specs.Sold.{all_sales, nothing};
 ghost use Rattle.office_reports.specs.Noted.{AreFew, IsFew, noted, noted_all, noted_next, unsold, with_sale};
@@ -43,7 +44,7 @@ impl Row for ItemSales {
 pub(crate) fn all_sales<B: Book>(book: &B, alloc: Global) -> Result<Vec<ItemSales>, AllocError>
     requires { IsSound (B.state book.now) }
     ensures sales { IfOk result (λ sales. sales.items ≡ all_sales (B.state book.now).lists) }
-    ensures few { IfOk result (λ sales. AreFew 1000000 sales.items) }
+    ensures few { IfOk result (λ sales. AreFew most_rows sales.items) }
 {
     book.known();
     let mut sales = all_unsold(book.catalogue().items(), alloc)?;
@@ -85,11 +86,10 @@ pub(crate) fn nothing() -> Sales
 fn note_all<B: Book>(sales: &mut Vec<ItemSales>, book: &B)
     requires order { AreInOrder (λ s. s.item) sales.old.items }
     requires few { AreFew 0 sales.old.items }
-    requires rows { length (B.state book.now).lists.positions ≤ 1000000 }
-    ensures noted { sales.new.items
-        ≡ map (noted_all (B.state book.now).lists (B.state book.now).lists.positions)
-        sales.old.items }
-    ensures few { AreFew 1000000 sales.new.items }
+    requires rows { length (B.state book.now).lists.positions ≤ most_rows }
+    ensures noted { let lists = (B.state book.now).lists in
+        sales.new.items ≡ map (noted_all lists lists.positions) sales.old.items }
+    ensures few { AreFew most_rows sales.new.items }
 {
     book.known();
     for position in book.positions() {
@@ -100,7 +100,7 @@ fn note_all<B: Book>(sales: &mut Vec<ItemSales>, book: &B)
 // Notes a position at its item, where its order stands.
 fn note_position<B: Book>(sales: &mut Vec<ItemSales>, book: &B, position: &OrderPos)
     requires order { AreInOrder (λ s. s.item) sales.old.items }
-    requires few { AreFew 1000000 sales.old.items }
+    requires few { AreFew most_rows sales.old.items }
     ensures noted { sales.new.items
         ≡ map (noted_next (B.state book.now).lists position.now) sales.old.items }
     ensures price { position.now.price ≤ last_cents }
@@ -114,7 +114,7 @@ fn note_position<B: Book>(sales: &mut Vec<ItemSales>, book: &B, position: &Order
 // Notes a position of an item, where that is among these.
 fn note(sales: &mut Vec<ItemSales>, status: Status, item: u64, price: u64)
     requires order { AreInOrder (λ s. s.item) sales.old.items }
-    requires few { AreFew 1000000 sales.old.items }
+    requires few { AreFew most_rows sales.old.items }
     requires price { price ≤ last_cents }
     ensures { sales.new.items ≡ map (noted status item price) sales.old.items }
 {
@@ -129,7 +129,7 @@ fn note(sales: &mut Vec<ItemSales>, status: Status, item: u64, price: u64)
 
 // With one more position, in an order of this status.
 fn with_sale(sales: Sales, status: Status, price: u64) -> Sales
-    requires few { IsFew 1000000 sales }
+    requires few { IsFew most_rows sales }
     requires price { price ≤ last_cents }
     ensures { result ≡ with_sale status price sales }
 {

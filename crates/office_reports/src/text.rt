@@ -1,6 +1,7 @@
 //! What was sold, as a text.
 
-ghost use Rattle.std.specs.Prelude.{◌≡◌, ◌≤◌, ◌++◌, OnOk, IfOk, length};
+ghost use Rattle.std.specs.Prelude.{◌*◌, ◌≡◌, ◌≤◌, ◌++◌, OnOk, IfOk, length};
+ghost use Rattle.model_catalogue.specs.Limits.{most_rows};
 ghost use Rattle.model_invariant.specs.Sound.{IsSound};
 ghost use Rattle.office_reports.specs.Noted.{AreFew, IsFew};
 ghost use Rattle.office_reports.specs.SalesText.{sales_columns, sales_line, sales_text, total_line, total_of, with_sales};
@@ -81,8 +82,8 @@ fn append_total(text: &mut Vec<u8>, alloc: Global, sales: Sales) -> Result<(), A
 
 // What was sold of all items.
 fn total(rows: &[ItemSales]) -> Sales
-    requires few { AreFew 1000000 rows.now }
-    requires rows { length rows.now ≤ 1000000 }
+    requires few { AreFew most_rows rows.now }
+    requires rows { length rows.now ≤ most_rows }
     ensures { result ≡ total_of rows.now }
 {
     let mut total = nothing();
@@ -94,8 +95,8 @@ fn total(rows: &[ItemSales]) -> Sales
 
 // What was sold of some items and of another one.
 fn with_sales(some: Sales, more: Sales) -> Sales
-    requires some { IsFew 1000000000000 some }
-    requires more { IsFew 1000000 more }
+    requires some { IsFew (most_rows * most_rows) some }
+    requires more { IsFew most_rows more }
     ensures { result ≡ with_sales some more }
 {
     Sales {

@@ -3,7 +3,8 @@ use Rattle.std.proofs.Common.{List, [], ◌∷◌}
 use Rattle.std.specs.List.{AllByRecursion}
 use Rattle.model_rows.specs.Lists.{State}
 use Rattle.model_invariant.specs.Sound.{IsSound}
-use Rattle.office_runs.specs.Runs.{Arrival, IsFitArrival, KeepsBudgets, stepped, trace}
+use Rattle.office_runs.specs.Runs.{Arrival, IsFitArrival, stepped, trace}
+use Rattle.office_runs.specs.Promises.{KeepsBudgets}
 use Rattle.office_runs.proofs.Runs.{sound_after}
 
 pub budgets_all : (arrivals : List Arrival) (state : State) → AllByRecursion IsFitArrival arrivals → IsSound state → AllByRecursion KeepsBudgets (trace arrivals state)

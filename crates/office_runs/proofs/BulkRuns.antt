@@ -23,7 +23,8 @@ use Rattle.model_commands.specs.declared.replies.Reply.{Reply}
 use Rattle.office_step.specs.Step.{cart_step, bulk_step, step, moment_at}
 use Rattle.decide_vouchers.specs.Imported.{rows_imported}
 use Rattle.office_runs.proofs.ImportRuns.{no_later, all_alone}
-use Rattle.office_runs.specs.Runs.{Arrival, stepped, trace, alone, after_run, outcome_told, outcomes_alone, RunsEntries, RunsItsEntries}
+use Rattle.office_runs.specs.Runs.{Arrival, stepped, trace, alone, after_run}
+use Rattle.office_runs.specs.Promises.{outcome_told, outcomes_alone, RunsEntries, RunsItsEntries}
 
 -- an entry of its own leads where it leads in the call, and is told what became of it there
 same_office : (state : State) (r : Result (State × CartPos) OrderRefusal) → (outcome_of state r).0 ≡ (cart_step state r).0

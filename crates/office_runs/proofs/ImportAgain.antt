@@ -236,5 +236,7 @@ module _ (before : List NewVoucher) (other : Draw) (later : State) (fit_before :
         rows_again rows draw next fit.1 sixteen sound_next stays,
       )
 
-pub same_again : (vouchers before : List NewVoucher) (draw other : Draw) (state later : State) → AllByRecursion IsFitVoucher vouchers → IsDraw draw → IsSound state → AllByRecursion IsFitVoucher before → IsDraw other → IsSound later → later.lists.vouchers ≡ (rows_imported vouchers draw state).0.lists.vouchers → AreSameAgain later other before vouchers (rows_imported vouchers draw state).1
+pub same_again : (vouchers before : List NewVoucher) (draw other : Draw) (state later : State) → AllByRecursion IsFitVoucher vouchers → IsDraw draw → IsSound state
+    → AllByRecursion IsFitVoucher before → IsDraw other → IsSound later → later.lists.vouchers ≡ (rows_imported vouchers draw state).0.lists.vouchers
+    → AreSameAgain later other before vouchers (rows_imported vouchers draw state).1
 same_again vouchers before draw other state later fit sixteen sound fit_before sixteen_later sound_later stays = rows_again before other later fit_before sixteen_later sound_later vouchers draw state fit sixteen sound stays

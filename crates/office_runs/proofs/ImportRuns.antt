@@ -15,7 +15,7 @@ use Rattle.model_commands.specs.declared.requests.Command.TheVariants.{AddVouche
 use Rattle.model_commands.specs.declared.replies.Reply.{Reply}
 use Rattle.office_step.specs.ShownRows.{show_voucher}
 use Rattle.office_step.specs.Step.{voucher_step, step, moment_at}
-use Rattle.office_runs.specs.Runs.{verdict_told, row_beside, rows_alone}
+use Rattle.office_runs.specs.Promises.{verdict_told, row_beside, rows_alone}
 
 pub no_later : (state : State) (clock : ℕ) → min clock last_moment ≤ state.moment → state.moment ≡ moment_at clock state
 no_later state clock le = by_last state.moment clock last_moment le

@@ -59,7 +59,8 @@ use Rattle.model_commands.specs.declared.orders.NewOrder.{NewOrder}
 use Rattle.model_commands.specs.declared.orders.OrderRefusal.{OrderRefusal}
 use Rattle.decide_orders.specs.Bulk.{outcome_of, entry_added, all_added}
 use Rattle.decide_orders.specs.Carts.{position_added}
-use Rattle.decide_orders.specs.Created.{AreCounted, position_put, with_positions, with_order_row, order_created}
+use Rattle.decide_orders.specs.Created.{position_put, with_positions, with_order_row, order_created}
+use Rattle.decide_orders.specs.Steps.{AreCounted}
 use Rattle.decide_orders.specs.Dropped.{position_dropped}
 use Rattle.decide_orders.specs.Moves.{order_moved}
 use Rattle.decide_orders.proofs.Added.{added_is, added_id}

@@ -79,7 +79,8 @@ use Rattle.office_step.specs.Step.{step, step_now, item_step, item_change_step, 
 use Rattle.office_step.specs.PeriodicWork.{periodic_done}
 use Rattle.office_runs.specs.NewIds.{AllIdsGoOn}
 use Rattle.office_runs.specs.Takings.{OwnRow, cart_own, position_own, cart_taken, order_taken, voucher_taken, brings_back, taken, voucher_ignores, is_joined, may_raise, fills_again}
-use Rattle.office_runs.specs.Runs.{Arrival, IsFitArrival, Stepped, stepped, office_at, trace, after_run, alone, made_alone, import_trace, steps_of, Each, NoneOver, StaysWithin, RaisesNothing, GivesNewIds, LeavesSound, NeverGoesBack, StoresItsMoment, ChangesNothingElse}
+use Rattle.office_runs.specs.Runs.{Arrival, IsFitArrival, Stepped, stepped, office_at, trace, after_run, alone, made_alone, import_trace, steps_of}
+use Rattle.office_runs.specs.Promises.{Each, NoneOver, StaysWithin, RaisesNothing, GivesNewIds, LeavesSound, NeverGoesBack, StoresItsMoment, ChangesNothingElse}
 use Rattle.office_step.proofs.SoundSteps.{sound_step, step_sound}
 use Rattle.office_runs.proofs.OrderSteps.{IsOrderFine, made_fine, moved_fine}
 use Rattle.office_runs.proofs.NewIds.{all_same, all_more, item_ids, item_change_ids, variation_ids, quota_ids, resize_ids, made_ids, rows_ids, changed_ids, deleted_ids, added_ids, entries_ids, dropped_ids, joined_ids, changed_entry_ids, left_ids, sending_ids}
@@ -581,7 +582,11 @@ fit_rows clock at draw [] fit = tt
 fit_rows clock at draw (new ∷ vouchers) fit = (record { command = fit.command.0; draw = fit.draw }, fit_rows clock at draw vouchers (record { command = fit.command.1; draw = fit.draw }))
 
 pub none_over_all : (arrivals : List Arrival) (state : State) → AllByRecursion (Each NoneOver) (trace arrivals state)
-none_over_all arrivals state = each_all NoneOver (λ arrival. Unit {0}) (λ s. Unit {0}) (λ clock at draw entries any. all_of (λ arrival. Unit {0}) (λ arrival. tt) (alone at draw entries)) (λ clock at draw vouchers any. all_of (λ new. Unit {0}) (λ new. tt) vouchers) (λ arrival s any known itself. (fine_at arrival s).none_over) (λ arrival s known. tt) (λ arrival s any known. tt) arrivals state (all_of (λ arrival. Unit {0}) (λ arrival. tt) arrivals) tt
+none_over_all arrivals state =
+    each_all NoneOver (λ arrival. Unit {0}) (λ s. Unit {0})
+    (λ clock at draw entries any. all_of (λ arrival. Unit {0}) (λ arrival. tt) (alone at draw entries)) (λ clock at draw vouchers any. all_of (λ new. Unit {0}) (λ new. tt) vouchers)
+    (λ arrival s any known itself. (fine_at arrival s).none_over) (λ arrival s known. tt) (λ arrival s any known. tt) arrivals state
+    (all_of (λ arrival. Unit {0}) (λ arrival. tt) arrivals) tt
 
 pub within_all : (arrivals : List Arrival) (state : State) → AllByRecursion IsFitArrival arrivals → IsSound state → AllByRecursion (Each StaysWithin) (trace arrivals state)
 within_all = each_all StaysWithin IsFitArrival IsSound fit_parts fit_rows (λ arrival s fit sound itself. (fine_at arrival s).within (sound_at arrival s sound)) sound_at sound_after

@@ -17,7 +17,8 @@ use Rattle.decide_door.specs.Valid.{IsStillGood}
 use Rattle.decide_door.specs.Verdict.{shown_by, is_stored}
 use Rattle.decide_door.proofs.Admitted.{admitted_is}
 use Rattle.decide_door.proofs.Again.{scan_stores, scan_repeated}
-use Rattle.office_runs.specs.Doors.{DoorGrows, HasNoncesOnce, scan_comes, AddsNothing}
+use Rattle.office_runs.specs.Doors.{DoorGrows}
+use Rattle.office_runs.specs.Promises.{HasNoncesOnce, scan_comes, AddsNothing}
 use Rattle.office_runs.specs.Runs.{Arrival, IsFitArrival, stepped, trace, after_run}
 use Rattle.office_step.specs.Step.{redeem_step, moment_at}
 use Rattle.office_runs.proofs.DoorTables.{door_more, door_still, door_step}

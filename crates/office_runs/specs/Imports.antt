@@ -1,7 +1,11 @@
 -- What a next import finds of the rows of one.
 use Rattle.std.specs.Prelude.{◌≡◌, Bool, true, false, is_some, List, ◌∷◌}
+use Rattle.std.specs.List.{AllByRecursion}
+use Rattle.base_values.specs.Draws.{IsDraw}
 use Rattle.base_values.specs.declared.draw.Draw.{Draw}
 use Rattle.model_rows.specs.Lists.{State}
+use Rattle.model_invariant.specs.Sound.{IsSound}
+use Rattle.model_commands.specs.FitRequests.{IsFitVoucher}
 use Rattle.model_commands.specs.declared.vouchers.NewVoucher.{NewVoucher}
 use Rattle.model_commands.specs.declared.vouchers.Verdict.{Verdict}
 use Rattle.model_commands.specs.declared.vouchers.Verdict.TheVariants.{Added, Same}
@@ -21,3 +25,16 @@ IsSameAgain later draw before new verdict = is_some new.code ≡ true → is_kep
 abbrev pub AreSameAgain : State → Draw → List NewVoucher → List NewVoucher → List Verdict → Type 0
 AreSameAgain later draw before (new ∷ more) (verdict ∷ verdicts) = IsSameAgain later draw before new verdict × AreSameAgain later draw before more verdicts
 AreSameAgain later draw before _ _ = Unit {0}
+
+-- an import into a sound box office, of rows within their limits
+pub record FitImport : Type 0 where
+  pub rows : List NewVoucher
+  pub draw : Draw
+  pub state : State
+  pub fit : AllByRecursion IsFitVoucher rows
+  pub sixteen : IsDraw draw
+  pub sound : IsSound state
+
+-- the box office after it, and the verdicts on its rows
+abbrev pub imported : FitImport → State × List Verdict
+imported i = rows_imported i.rows i.draw i.state

@@ -8,7 +8,8 @@ use Rattle.office_step.specs.Step.{step}
 use Rattle.office_deliveries.specs.declared.arrival.Request.{Request}
 use Rattle.office_deliveries.specs.declared.arrival.Request.TheVariants.{Write, WriteRefused, Read, ReadRefused}
 use Rattle.office_deliveries.specs.Deliveries.{First, executed}
-use Rattle.office_runs.specs.Runs.{Stepped, Each, NoneOver, StaysWithin, RaisesNothing, RunsItsEntries, GivesNewIds, LeavesSound}
+use Rattle.office_runs.specs.Runs.{Stepped}
+use Rattle.office_runs.specs.Promises.{Each, NoneOver, StaysWithin, RaisesNothing, RunsItsEntries, GivesNewIds, LeavesSound}
 
 -- a step that takes too much of no quota, as the laws of the office say it, a bulk call by its entries, which it runs; gives
 -- new ids alone; and leaves the office sound

@@ -8,12 +8,8 @@ ghost use Rattle.model_catalogue.specs.declared.rows.Quota.{Quota};
 ghost use Rattle.model_rows.specs.Lists.{State};
 ghost use Rattle.model_invariant.specs.Sound.{IsSound};
 ghost use Rattle.office_runs.specs.Changes.{MakesItsChanges};
-ghost use Rattle.base_values.specs.Draws.{IsDraw};
 ghost use Rattle.base_values.specs.declared.draw.Draw.{Draw};
-ghost use Rattle.model_commands.specs.FitRequests.{IsFitVoucher};
-ghost use Rattle.model_commands.specs.declared.vouchers.NewVoucher.{NewVoucher};
-ghost use Rattle.decide_vouchers.specs.Imported.{rows_imported};
-ghost use Rattle.office_runs.specs.Imports.{AreSameAgain};
+ghost use Rattle.office_runs.specs.Imports.{AreSameAgain, FitImport, imported};
 ghost use Rattle.model_rows.specs.declared.rows.OrderPos.{OrderPos};
 ghost use Rattle.model_commands.specs.declared.doors.Scan.{Scan};
 ghost use Rattle.model_commands.specs.declared.doors.Ticket.{Ticket};
@@ -24,10 +20,11 @@ ghost use Rattle.base_values.specs.declared.answer.Response.{Response};
 ghost use Rattle.office_deliveries.specs.Deliveries.{Delivery, Opening, firsts, office};
 ghost use Rattle.office_deliveries.specs.Fit.{IsFitDelivery};
 ghost use Rattle.office_runs.specs.NothingTooMuch.{TakesNothingTooMuch, steps};
-ghost use Rattle.office_runs.specs.Doors.{HasNoncesOnce, scan_comes, AddsNothing};
+ghost use Rattle.office_runs.specs.Promises.{HasNoncesOnce, scan_comes, AddsNothing};
 ghost use Rattle.office_runs.specs.NewIds.{AllIdsGoOn};
 ghost use Rattle.office_runs.specs.Takings.{fills_again};
-ghost use Rattle.office_runs.specs.Runs.{Arrival, IsFitArrival, InEachRun, InEachSoundRun, stepped, after_run, Each, NoneOver, StaysWithin, RaisesNothing, RunsItsEntries, GivesNewIds, LeavesSound, KeepsBudgets, StoresItsMoment, ChangesNothingElse, NeverGoesBack};
+ghost use Rattle.office_runs.specs.Runs.{Arrival, IsFitArrival, stepped, after_run};
+ghost use Rattle.office_runs.specs.Promises.{InEachRun, InEachSoundRun, Each, NoneOver, StaysWithin, RaisesNothing, RunsItsEntries, GivesNewIds, LeavesSound, KeepsBudgets, StoresItsMoment, ChangesNothingElse, NeverGoesBack};
 
 /// Whatever commands come, where one takes places, no quota is taken too much of: where a cart position is added, an order is
 /// made, an expired order is marked paid or extended, or a voucher that then doesn't ignore quotas is made or changed. A
@@ -64,11 +61,9 @@ pub fn bulk_calls_run_their_entries()
 /// A row of an import that was added, or was the same, is the same in a next one, behind whatever rows, if no voucher has changed in
 /// between: so a file can be imported again after a lost answer. A voucher file's rows all have a code.
 pub fn importing_again_adds_nothing()
-    ensures { (vouchers before : List NewVoucher) (draw other : Draw) (state later : State) →
-        AllByRecursion IsFitVoucher vouchers → IsDraw draw → IsSound state →
-        AllByRecursion IsFitVoucher before → IsDraw other → IsSound later →
-        later.lists.vouchers ≡ (rows_imported vouchers draw state).0.lists.vouchers →
-        AreSameAgain later other before vouchers (rows_imported vouchers draw state).1 }
+    ensures { (first next : FitImport) →
+        next.state.lists.vouchers ≡ (imported first).0.lists.vouchers →
+        AreSameAgain next.state next.draw next.rows first.rows (imported first).1 }
 {}
 
 /// Ids are never used again: no command lowers the next id of a table, and a row that it adds has an id that is at least the

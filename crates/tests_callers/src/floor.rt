@@ -1,12 +1,10 @@
 //! A hall, who is in it, and what those who left were told.
 
-ghost use Rattle.web_connection.specs.Run.{IsPiece};
-
 use crate::party::Guest;
 use base_devices::{Device, Ticks};
 use std::alloc::{AllocError, Global};
 use std::sync::ledger::Ledger;
-use web_connection::Desk;
+use web_connection::{Desk, Piece};
 use web_sockets::Script;
 use web_turns::{Hall, Next, serve_turns};
 
@@ -70,13 +68,11 @@ impl<'a> Floor<'a> {
         &mut self,
         alloc: Global,
         next: Next,
-        piece: &mut [u8],
+        piece: &mut Piece,
         page: &mut Device<Vec<u8>, L, M>,
         ticks: &mut T,
         desk: &mut D,
-    )
-        requires { IsPiece piece.old }
-    {
+    ) {
         if let Next::Leaves(place) = next {
             return self.leave(place);
         }

@@ -1,6 +1,5 @@
 //! Callers at a desk.
 
-ghost use Rattle.web_connection.specs.Run.{IsPiece};
 ghost use Rattle.base_devices.specs.Blanks.{IsBlankOf};
 
 use crate::error::TogetherError;
@@ -11,24 +10,19 @@ use base_values::Steps;
 use std::alloc::Global;
 use std::marker::Brand;
 use std::sync::ledger::{Blank, Ledger};
-use web_connection::{Desk, blank};
+use web_connection::{Desk, Piece};
 use web_turns::Next;
-
-/// The most bytes that one read gives.
-const PIECE: usize = 4096;
 
 // All that happens, one after another.
 fn go_on<L: Ledger, M: Ledger, T: Ticks, D: Desk>(
     alloc: Global,
     floor: &mut Floor<'_>,
     order: &[Next],
-    piece: &mut [u8],
+    piece: &mut Piece,
     page: &mut Device<Vec<u8>, L, M>,
     ticks: &mut T,
     desk: &mut D,
-)
-    requires { IsPiece piece.old }
-{
+) {
     for next in order {
         floor.go(alloc, *next, piece, page, ticks, desk);
     }
@@ -52,7 +46,7 @@ impl Party<'_> {
             calls: Steps::<L>::new(blanks.0),
             failures: Steps::<M>::new(blanks.1),
         };
-        let mut piece = blank(alloc, PIECE)?;
+        let mut piece = Piece::new(alloc)?;
         let mut floor = Floor::new(alloc, self.places, self.guests.as_slice())?;
         go_on(alloc, &mut floor, order, &mut piece, &mut page, ticks, desk);
         Ok(floor.close())

@@ -2,9 +2,9 @@
 use Rattle.std.specs.Prelude.{◌≡◌, ℕ, List, Some, Ok}
 use Rattle.base_devices.specs.declared.device.Tick.{Tick}
 use Rattle.model_answers.specs.ShopView.{ShopView}
-use Rattle.office_deliveries.specs.Shops.{Views}
 use Rattle.web_connection.specs.Run.{Devices, RunLeads}
 use Rattle.web_arrivals.specs.DeskView.{DeskView, House, IsOf, Meaning}
+use Rattle.web_arrivals.specs.Seen.{HasShop}
 use Rattle.web_arrivals.specs.Streams.{Decides}
 
 -- A run of a desk of this house from this shop ends well, and nothing in it is answered 503. These bytes are to come, these ticks
@@ -13,7 +13,7 @@ pub record RunsWhole {T : Type 0} (tables : Meaning T) (house : House) (shop : S
   pub run : RunLeads (Decides tables) old new (Ok tt)
   pub sure : tables.sure new.desk.tables
   pub of : IsOf tables house old.desk
-  pub views : Views tables.holds old.desk.tables old.desk.state shop
+  pub views : HasShop tables old.desk shop
   pub to_come : old.left ≡ Some bytes
   pub ticked : old.told ≡ Some ticks
   pub wrote : old.taken ≡ Some written

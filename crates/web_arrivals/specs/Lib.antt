@@ -1,4 +1,5 @@
 pub mod DeskView
+pub mod Seen
 pub mod Coming
 pub mod Served
 pub mod Streams

@@ -9,11 +9,12 @@ use Rattle.model_commands.specs.declared.replies.Reply.{Reply}
 use Rattle.office_deliveries.specs.declared.arrival.Arrival.{Arrival}
 use Rattle.office_deliveries.specs.Deliveries.{Opening, Delivery, told}
 use Rattle.office_deliveries.specs.Fit.{IsFitArrival}
-use Rattle.office_deliveries.specs.Histories.{Running, IsRunning, after_act}
-use Rattle.office_deliveries.specs.Shops.{Views, StandsFor, IsAnswered, delivered}
+use Rattle.office_deliveries.specs.Histories.{Running, after_act}
+use Rattle.office_deliveries.specs.Shops.{IsAnswered, delivered}
 use Rattle.model_answers.specs.ShopView.{ShopView}
 use Rattle.web_arrivals.specs.Coming.{arrival}
 use Rattle.web_arrivals.specs.DeskView.{DeskView, House, Meaning, house_of, words_of}
+use Rattle.web_arrivals.specs.Seen.{HasList, HasRunning, HasShop}
 
 -- without an arrival it is 401, in these words, or 503
 abbrev pub IsRefused : Response → Answer → Type 0
@@ -47,11 +48,9 @@ module _ (words : Reply → Response) where
 -- is seen by its rows and its kept answers, as a shop that stands for a list of arrivals, or as a running one, with what a crash
 -- may leave of it. Where it is answered 503, all stays as it was.
 pub record ServesOnce {T : Type 0} (tables : Meaning T) (words : Reply → Response) (old : DeskView T) (coming : Result Arrival Response) (answer : Answer) (new : DeskView T) : Type 0 where
-  pub served : (v : ShopView) → Views tables.holds old.tables old.state v → IsServed words coming v answer (λ w. Views tables.holds new.tables new.state w)
-  pub stands : (p : Opening) (ds : List Delivery) → StandsFor words tables.holds old.tables old.state p ds
-      → IsListed words coming p ds answer (λ es. StandsFor words tables.holds new.tables new.state p es)
-  pub running : (r : Running) → IsRunning words tables.holds tables.may_leave old.tables old.state r
-      → IsRunning words tables.holds tables.may_leave new.tables new.state (after_message words coming answer r)
+  pub served : (v : ShopView) → HasShop tables old v → IsServed words coming v answer (λ w. HasShop tables new w)
+  pub stands : (p : Opening) (ds : List Delivery) → HasList tables words old p ds → IsListed words coming p ds answer (λ es. HasList tables words new p es)
+  pub running : (r : Running) → HasRunning tables words old r → HasRunning tables words new (after_message words coming answer r)
   pub house : (house : House) → tables.knows old.tables house → tables.knows new.tables house
   pub fit : IsFitComing coming answer
 

@@ -5,13 +5,13 @@ ghost use Rattle.base_devices.specs.declared.device.Tick.{Tick};
 ghost use Rattle.model_invariant.specs.Sound.{IsSound};
 ghost use Rattle.model_answers.specs.ShopView.{ShopView};
 ghost use Rattle.office_deliveries.specs.Deliveries.{Opening, Delivery};
-ghost use Rattle.office_deliveries.specs.Histories.{Running, IsRunning};
-ghost use Rattle.office_deliveries.specs.Shops.{Views, StandsFor};
+ghost use Rattle.office_deliveries.specs.Histories.{Running};
 ghost use Rattle.web_connection.specs.declared.failure.Failure.{Failure};
 ghost use Rattle.web_connection.specs.Run.{Item, Runs, Devices, with_desk, RunLeads};
 ghost use Rattle.web_arrivals.specs.Cuts.{RunsWhole};
-ghost use Rattle.web_arrivals.specs.DeskView.{DeskView, House, IsOf, meaning, words_of};
+ghost use Rattle.web_arrivals.specs.DeskView.{DeskView, House, IsOf, trait_meaning, words_of};
 ghost use Rattle.web_arrivals.specs.Given.{AreGiven, ServesGiven};
+ghost use Rattle.web_arrivals.specs.Seen.{HasList, HasRunning, HasShop};
 ghost use Rattle.web_arrivals.specs.Served.{Serves};
 ghost use Rattle.web_arrivals.specs.Streams.{Decides, ServesList, ServesRunning, ServesAndKeeps};
 
@@ -22,29 +22,24 @@ use model_answers::Tables;
 /// what is written is the text of these answers, in order, or where the writer failed its front.
 pub fn streams_are_told_once<T: Tables>()
     ensures { (house : House) (p : Opening) (ds : List Delivery) (old new : Devices (DeskView T))
-        (result : Result (Unit {0}) Failure)
-        → let tables = meaning T.sure T.holds T.knows T.may_leave in
+        (result : Result (Unit {0}) Failure) → let tables = trait_meaning T.Tables in
         RunLeads (Serves tables) old new result → T.sure new.desk.tables
-        → IsOf tables house old.desk
-        → StandsFor (words_of house) T.holds old.desk.tables old.desk.state p ds
+        → IsOf tables house old.desk → HasList tables (words_of house) old.desk p ds
         → (es : List Delivery)
         × RunLeads (ServesList house p) (with_desk old ds) (with_desk new es) result
-        × IsOf tables house new.desk
-        × StandsFor (words_of house) T.holds new.desk.tables new.desk.state p es }
+        × IsOf tables house new.desk × HasList tables (words_of house) new.desk p es }
 {}
 
 /// The same of a shop that is running: whatever a crash leaves of it then is the shop as it is, or with one write carried out
 /// that was answered 503 since the last one that was executed.
 pub fn streams_run_on<T: Tables>()
     ensures { (house : House) (r : Running) (old new : Devices (DeskView T))
-        (result : Result (Unit {0}) Failure)
-        → let tables = meaning T.sure T.holds T.knows T.may_leave in
+        (result : Result (Unit {0}) Failure) → let tables = trait_meaning T.Tables in
         RunLeads (Serves tables) old new result → T.sure new.desk.tables
-        → IsOf tables house old.desk
-        → IsRunning (words_of house) T.holds T.may_leave old.desk.tables old.desk.state r
-        → (s : Running) × RunLeads (ServesRunning house) (with_desk old r) (with_desk new s) result
-        × IsOf tables house new.desk
-        × IsRunning (words_of house) T.holds T.may_leave new.desk.tables new.desk.state s }
+        → IsOf tables house old.desk → HasRunning tables (words_of house) old.desk r
+        → (s : Running)
+        × RunLeads (ServesRunning house) (with_desk old r) (with_desk new s) result
+        × IsOf tables house new.desk × HasRunning tables (words_of house) new.desk s }
 {}
 
 /// Whatever bytes come to a sound shop, each request that is executed makes a step that takes too much of no quota, as the
@@ -53,25 +48,19 @@ pub fn streams_run_on<T: Tables>()
 /// shop stays sound.
 pub fn streams_take_nothing_too_much<T: Tables>()
     ensures { (house : House) (v : ShopView) (old new : Devices (DeskView T))
-        (result : Result (Unit {0}) Failure)
-        → let tables = meaning T.sure T.holds T.knows T.may_leave in
+        (result : Result (Unit {0}) Failure) → let tables = trait_meaning T.Tables in
         IsSound v.state → RunLeads (Serves tables) old new result → T.sure new.desk.tables
-        → IsOf tables house old.desk
-        → Views T.holds old.desk.tables old.desk.state v
-        → (w : ShopView)
+        → IsOf tables house old.desk → HasShop tables old.desk v → (w : ShopView)
         × RunLeads (ServesAndKeeps house) (with_desk old v) (with_desk new w) result
-        × IsOf tables house new.desk × Views T.holds new.desk.tables new.desk.state w
-        × IsSound w.state }
+        × IsOf tables house new.desk × HasShop tables new.desk w × IsSound w.state }
 {}
 
 /// The office's moment never falls, whatever the clock shows.
 pub fn time_never_falls<T: Tables>()
     ensures { (house : House) (v : ShopView) (old new : Devices (DeskView T))
-        (result : Result (Unit {0}) Failure)
-        → let tables = meaning T.sure T.holds T.knows T.may_leave in
+        (result : Result (Unit {0}) Failure) → let tables = trait_meaning T.Tables in
         RunLeads (Serves tables) old new result → T.sure new.desk.tables
-        → IsOf tables house old.desk
-        → Views T.holds old.desk.tables old.desk.state v
+        → IsOf tables house old.desk → HasShop tables old.desk v
         → old.desk.state.moment ≤ new.desk.state.moment }
 {}
 
@@ -80,42 +69,33 @@ pub fn time_never_falls<T: Tables>()
 pub fn runs_are_alike<T: Tables, U: Tables>()
     ensures { (house : House) (v : ShopView) (old new : DeskView T) (other newer : DeskView U)
         (ticks : List Tick) (items : List Item) (a b : List ℕ)
-        → let tables = meaning T.sure T.holds T.knows T.may_leave in
-        let others = meaning U.sure U.holds U.knows U.may_leave in
+        → let tables = trait_meaning T.Tables in let others = trait_meaning U.Tables in
         Runs (Decides tables) old ticks items a new
-        → Runs (Decides others) other ticks items b newer
-        → T.sure new.tables → U.sure newer.tables → IsOf tables house old → IsOf others house other
-        → Views T.holds old.tables old.state v → Views U.holds other.tables other.state v
-        → (a ≡ b)
-        × ((w : ShopView) × Views T.holds new.tables new.state w
-        × Views U.holds newer.tables newer.state w) }
+        → Runs (Decides others) other ticks items b newer → T.sure new.tables
+        → U.sure newer.tables → IsOf tables house old → IsOf others house other
+        → HasShop tables old v → HasShop others other v
+        → (a ≡ b) × ((w : ShopView) × HasShop tables new w × HasShop others newer w) }
 {}
 
 /// However a stream is cut into reads: of two runs over the same bytes that end well, with the same ticks, from the same shop,
 /// each over tables of its own, in which nothing is answered 503, both write the same and lead to the same shop.
 pub fn cuts_are_alike<T: Tables, U: Tables>()
-    ensures { (house : House) (v : ShopView) (bytes : List ℕ) (ticks : List Tick) (written : List ℕ)
-        (old new : Devices (DeskView T)) (other newer : Devices (DeskView U))
-        → let tables = meaning T.sure T.holds T.knows T.may_leave in
-        let others = meaning U.sure U.holds U.knows U.may_leave in
+    ensures { (house : House) (v : ShopView) (bytes : List ℕ) (ticks : List Tick)
+        (written : List ℕ) (old new : Devices (DeskView T)) (other newer : Devices (DeskView U))
+        → let tables = trait_meaning T.Tables in let others = trait_meaning U.Tables in
         RunsWhole tables house v bytes ticks written old new
-        → RunsWhole others house v bytes ticks written other newer
-        → new.told ≡ newer.told
+        → RunsWhole others house v bytes ticks written other newer → new.told ≡ newer.told
         → (new.taken ≡ newer.taken)
-        × ((w : ShopView) × Views T.holds new.desk.tables new.desk.state w
-        × Views U.holds newer.desk.tables newer.desk.state w) }
+        × ((w : ShopView) × HasShop tables new.desk w × HasShop others newer.desk w) }
 {}
 
 /// Whatever a stream brings, and wherever it breaks off: each of its messages is answered with one of twelve statuses, where the
 /// answers that the shop keeps have such statuses; and those that it keeps at the end have.
 pub fn each_status_is_given<T: Tables>()
     ensures { (house : House) (v : ShopView) (old new : Devices (DeskView T))
-        (result : Result (Unit {0}) Failure)
-        → let tables = meaning T.sure T.holds T.knows T.may_leave in
+        (result : Result (Unit {0}) Failure) → let tables = trait_meaning T.Tables in
         AreGiven v.kept → RunLeads (Serves tables) old new result → T.sure new.desk.tables
-        → IsOf tables house old.desk
-        → Views T.holds old.desk.tables old.desk.state v
-        → (w : ShopView) × RunLeads (ServesGiven house) (with_desk old v) (with_desk new w) result
-        × IsOf tables house new.desk × Views T.holds new.desk.tables new.desk.state w
-        × AreGiven w.kept }
+        → IsOf tables house old.desk → HasShop tables old.desk v → (w : ShopView)
+        × RunLeads (ServesGiven house) (with_desk old v) (with_desk new w) result
+        × IsOf tables house new.desk × HasShop tables new.desk w × AreGiven w.kept }
 {}

@@ -4,8 +4,9 @@ ghost use Rattle.std.specs.Prelude.{ℕ, List};
 ghost use Rattle.web_connection.specs.Run.{AtTick};
 ghost use Rattle.model_invariant.specs.Sound.{IsSound};
 ghost use Rattle.model_answers.specs.ShopView.{ShopView};
-ghost use Rattle.web_arrivals.specs.Deliveries.{Delivery, Event, Happens, IsRunning, Opening, Running, StandsFor, Views};
-ghost use Rattle.web_arrivals.specs.DeskView.{DeskView, House, IsOf, meaning, words_of};
+ghost use Rattle.web_arrivals.specs.Deliveries.{Delivery, Event, Happens, Opening, Running};
+ghost use Rattle.web_arrivals.specs.DeskView.{DeskView, House, IsOf, trait_meaning, words_of};
+ghost use Rattle.web_arrivals.specs.Seen.{HasList, HasRunning, HasShop};
 ghost use Rattle.web_arrivals.specs.Served.{Serves};
 ghost use Rattle.web_arrivals.specs.Streams.{ServesAndKeeps, ServesHistory, ServesList, ServesRunning};
 ghost use Rattle.web_turns.specs.Acts.{Between, seen_at};
@@ -21,58 +22,47 @@ use model_answers::Tables;
 /// in the others.
 pub fn callers_are_told_once<T: Tables, K: Ticks>()
     ensures { (house : House) (p : Opening) (ds : List Delivery) (came : ℕ)
-        (old new : Between (DeskView T)) (all : Story)
-        → let tables = meaning T.sure T.holds T.knows T.may_leave in
+        (old new : Between (DeskView T)) (all : Story) → let tables = trait_meaning T.Tables in
         Hall (AtTick K.reads (Serves tables)) came old new all → T.sure new.desk.tables
-        → IsOf tables house old.desk
-        → StandsFor (words_of house) T.holds old.desk.tables old.desk.state p ds
+        → IsOf tables house old.desk → HasList tables (words_of house) old.desk p ds
         → (es : List Delivery)
         × Hall (AtTick K.reads (ServesList house p)) came (seen_at old ds) (seen_at new es) all
-        × IsOf tables house new.desk
-        × StandsFor (words_of house) T.holds new.desk.tables new.desk.state p es }
+        × IsOf tables house new.desk × HasList tables (words_of house) new.desk p es }
 {}
 
 /// The same of a shop that is running: whatever a crash leaves of it at the end is the shop as it is, or with one write carried out that was
 /// answered 503 since the last one that was executed.
 pub fn callers_run_on<T: Tables, K: Ticks>()
     ensures { (house : House) (r : Running) (came : ℕ) (old new : Between (DeskView T))
-        (all : Story)
-        → let tables = meaning T.sure T.holds T.knows T.may_leave in
+        (all : Story) → let tables = trait_meaning T.Tables in
         Hall (AtTick K.reads (Serves tables)) came old new all → T.sure new.desk.tables
-        → IsOf tables house old.desk
-        → IsRunning (words_of house) T.holds T.may_leave old.desk.tables old.desk.state r
+        → IsOf tables house old.desk → HasRunning tables (words_of house) old.desk r
         → (s : Running)
         × Hall (AtTick K.reads (ServesRunning house)) came (seen_at old r) (seen_at new s) all
-        × IsOf tables house new.desk
-        × IsRunning (words_of house) T.holds T.may_leave new.desk.tables new.desk.state s }
+        × IsOf tables house new.desk × HasRunning tables (words_of house) new.desk s }
 {}
 
 /// Whatever callers send to a sound shop: each request that is executed makes a step that takes too much of no quota; a repeat, a read and what is
 /// refused before it is a command take nothing; and the shop remains sound.
 pub fn callers_take_nothing_too_much<T: Tables, K: Ticks>()
     ensures { (house : House) (v : ShopView) (came : ℕ) (old new : Between (DeskView T))
-        (all : Story)
-        → let tables = meaning T.sure T.holds T.knows T.may_leave in
+        (all : Story) → let tables = trait_meaning T.Tables in
         IsSound v.state → Hall (AtTick K.reads (Serves tables)) came old new all
-        → T.sure new.desk.tables → IsOf tables house old.desk
-        → Views T.holds old.desk.tables old.desk.state v
+        → T.sure new.desk.tables → IsOf tables house old.desk → HasShop tables old.desk v
         → (w : ShopView)
         × Hall (AtTick K.reads (ServesAndKeeps house)) came (seen_at old v) (seen_at new w) all
-        × IsOf tables house new.desk × Views T.holds new.desk.tables new.desk.state w
-        × IsSound w.state }
+        × IsOf tables house new.desk × HasShop tables new.desk w × IsSound w.state }
 {}
 
 /// The same as a history, which may have begun long before, with crashes in it: each message that was acted on is an event behind those before
 /// it, an arrival with what it was answered, or without an answer; and the shop is running as these events leave it.
 pub fn callers_go_on_with_a_history<T: Tables, K: Ticks>()
     ensures { (house : House) (begun q : Running) (es : List Event) (came : ℕ)
-        (old new : Between (DeskView T)) (all : Story)
-        → let tables = meaning T.sure T.holds T.knows T.may_leave in
+        (old new : Between (DeskView T)) (all : Story) → let tables = trait_meaning T.Tables in
         Hall (AtTick K.reads (Serves tables)) came old new all → T.sure new.desk.tables
         → IsOf tables house old.desk → Happens (words_of house) begun es q
-        → IsRunning (words_of house) T.holds T.may_leave old.desk.tables old.desk.state q
-        → (fs : List Event) × (s : Running)
+        → HasRunning tables (words_of house) old.desk q → (fs : List Event) × (s : Running)
         × Hall (AtTick K.reads (ServesHistory house)) came (seen_at old es) (seen_at new fs) all
         × IsOf tables house new.desk × Happens (words_of house) begun fs s
-        × IsRunning (words_of house) T.holds T.may_leave new.desk.tables new.desk.state s }
+        × HasRunning tables (words_of house) new.desk s }
 {}

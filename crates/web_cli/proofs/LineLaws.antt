@@ -2,13 +2,14 @@
 use Rattle.std.proofs.Common.{◌≡◌, ◌++◌, ℕ, List, [], ◌∷◌, Some, None, codes, refl, true, false}
 use Rattle.clap.specs.declared.error.ErrorKind.TheVariants as kinds
 use Rattle.clap.proofs.OnLiterals.{clap_on_literals}
-use Rattle.web_cli.specs.Asked.{adds, asked, exports, imports, makes, migrates, none, plain_words, reports, runs, serves, works}
+use Rattle.web_cli.specs.Asked.{adds, asked, exports, imports, lacks_argument, makes, migrates, none, plain_words, reports, runs, serves, works}
+use Rattle.web_cli.specs.Examples.{asked_alone, asked_of_feed, asked_on_hall, asked_to_serve, asked_with_step, hall, morning}
 
-pub in_order : (program from step : List ℕ) → asked (program ∷ codes "feed" ∷ (codes "--from=" ++ from) ∷ (codes "--step=" ++ step) ∷ []) ≡ runs from step
+pub in_order : (program from step : List ℕ) → asked_of_feed program ((codes "--from=" ++ from) ∷ (codes "--step=" ++ step) ∷ []) ≡ runs from step
 unfolding clap_on_literals asked
 in_order program from step = refl
 
-pub turned : (program from step : List ℕ) → asked (program ∷ codes "feed" ∷ (codes "--step=" ++ step) ∷ (codes "--from=" ++ from) ∷ []) ≡ runs from step
+pub turned : (program from step : List ℕ) → asked_of_feed program ((codes "--step=" ++ step) ∷ (codes "--from=" ++ from) ∷ []) ≡ runs from step
 unfolding clap_on_literals asked
 turned program from step = refl
 
@@ -16,137 +17,134 @@ pub no_command : (program : List ℕ) → asked (program ∷ []) ≡ none (kinds
 unfolding clap_on_literals asked
 no_command program = refl
 
-pub no_flags : (program : List ℕ) → asked (program ∷ codes "feed" ∷ []) ≡ none (kinds.MissingRequiredArgument ∷ [])
+pub no_flags : (program : List ℕ) → asked_alone program "feed" ≡ lacks_argument
 unfolding clap_on_literals asked
 no_flags program = refl
 
-pub no_step : (program from : List ℕ) → asked (program ∷ codes "feed" ∷ (codes "--from=" ++ from) ∷ []) ≡ none (kinds.MissingRequiredArgument ∷ [])
+pub no_step : (program from : List ℕ) → asked_of_feed program ((codes "--from=" ++ from) ∷ []) ≡ lacks_argument
 unfolding clap_on_literals asked
 no_step program from = refl
 
-pub no_from : (program step : List ℕ) → asked (program ∷ codes "feed" ∷ (codes "--step=" ++ step) ∷ []) ≡ none (kinds.MissingRequiredArgument ∷ [])
+pub no_from : (program step : List ℕ) → asked_of_feed program ((codes "--step=" ++ step) ∷ []) ≡ lacks_argument
 unfolding clap_on_literals asked
 no_from program step = refl
 
-pub shows_help : (program : List ℕ) → asked (program ∷ codes "--help" ∷ []) ≡ none (kinds.DisplayHelp ∷ [])
+pub shows_help : (program : List ℕ) → asked_alone program "--help" ≡ none (kinds.DisplayHelp ∷ [])
 unfolding clap_on_literals asked
 shows_help program = refl
 
-pub shows_help_of_feed : (program : List ℕ) → asked (program ∷ codes "feed" ∷ codes "--help" ∷ []) ≡ none (kinds.DisplayHelp ∷ [])
+pub shows_help_of_feed : (program : List ℕ) → asked_of_feed program (codes "--help" ∷ []) ≡ none (kinds.DisplayHelp ∷ [])
 unfolding clap_on_literals asked
 shows_help_of_feed program = refl
 
-pub shows_version : (program : List ℕ) → asked (program ∷ codes "--version" ∷ []) ≡ none (kinds.DisplayVersion ∷ [])
+pub shows_version : (program : List ℕ) → asked_alone program "--version" ≡ none (kinds.DisplayVersion ∷ [])
 unfolding clap_on_literals asked
 shows_version program = refl
 
-pub shows_version_shortly : (program : List ℕ) → asked (program ∷ codes "-V" ∷ []) ≡ none (kinds.DisplayVersion ∷ [])
+pub shows_version_shortly : (program : List ℕ) → asked_alone program "-V" ≡ none (kinds.DisplayVersion ∷ [])
 unfolding clap_on_literals asked
 shows_version_shortly program = refl
 
-pub no_version_of_feed : (program : List ℕ) → asked (program ∷ codes "feed" ∷ codes "--version" ∷ []) ≡ none (kinds.UnknownArgument ∷ [])
+pub no_version_of_feed : (program : List ℕ) → asked_of_feed program (codes "--version" ∷ []) ≡ none (kinds.UnknownArgument ∷ [])
 unfolding clap_on_literals asked
 no_version_of_feed program = refl
 
-pub words_behind_flags : asked (plain_words (codes "boxoffice" ∷ codes "feed" ∷ codes "--from" ∷ codes "2026-05-01T10:00:00Z" ∷ codes "--step" ∷ codes "60" ∷ []))
-    ≡ runs (codes "2026-05-01T10:00:00Z") (codes "60")
+pub words_behind_flags : asked_with_step "60" ≡ runs morning (codes "60")
 unfolding clap_on_literals asked
 words_behind_flags = refl
 
-pub signed_step : asked (plain_words (codes "boxoffice" ∷ codes "feed" ∷ codes "--from" ∷ codes "2026-05-01T10:00:00Z" ∷ codes "--step" ∷ codes "-1" ∷ []))
-    ≡ runs (codes "2026-05-01T10:00:00Z") []
+pub signed_step : asked_with_step "-1" ≡ runs morning []
 unfolding clap_on_literals asked
 signed_step = refl
 
-pub unknown_flag : asked (plain_words (codes "boxoffice" ∷ codes "feed" ∷ codes "--from" ∷ codes "2026-05-01T10:00:00Z" ∷ codes "--step" ∷ codes "-x" ∷ []))
-    ≡ none (kinds.UnknownArgument ∷ [])
+pub unknown_flag : asked_with_step "-x" ≡ none (kinds.UnknownArgument ∷ [])
 unfolding clap_on_literals asked
 unknown_flag = refl
 
-pub makes_shop : (program organizer event : List ℕ) → asked (program ∷ codes "init" ∷ codes "hall.db" ∷ (codes "--organizer=" ++ organizer) ∷ (codes "--event=" ++ event) ∷ [])
-    ≡ makes (codes "hall.db") organizer event
+pub makes_shop : (program organizer event : List ℕ) → asked_on_hall program "init" ((codes "--organizer=" ++ organizer) ∷ (codes "--event=" ++ event) ∷ [])
+    ≡ makes hall organizer event
 unfolding clap_on_literals asked
 makes_shop program organizer event = refl
 
-pub makes_turned : (program organizer event : List ℕ) → asked (program ∷ codes "init" ∷ (codes "--event=" ++ event) ∷ (codes "--organizer=" ++ organizer) ∷ codes "hall.db" ∷ [])
-    ≡ makes (codes "hall.db") organizer event
+pub makes_turned : (program organizer event : List ℕ) → asked (program ∷ codes "init" ∷ (codes "--event=" ++ event) ∷ (codes "--organizer=" ++ organizer) ∷ hall ∷ [])
+    ≡ makes hall organizer event
 unfolding clap_on_literals asked
 makes_turned program organizer event = refl
 
-pub adds_token : (program : List ℕ) → asked (program ∷ codes "token-add" ∷ codes "hall.db" ∷ codes "secret" ∷ []) ≡ adds (codes "hall.db") (codes "secret")
+pub adds_token : (program : List ℕ) → asked_on_hall program "token-add" (codes "secret" ∷ []) ≡ adds hall (codes "secret")
 unfolding clap_on_literals asked
 adds_token program = refl
 
-pub no_organizer : (program text : List ℕ) → asked (program ∷ codes "init" ∷ codes "hall.db" ∷ (codes "--event=" ++ text) ∷ []) ≡ none (kinds.MissingRequiredArgument ∷ [])
+pub no_organizer : (program text : List ℕ) → asked_on_hall program "init" ((codes "--event=" ++ text) ∷ []) ≡ lacks_argument
 unfolding clap_on_literals asked
 no_organizer program text = refl
 
-pub no_token : (program : List ℕ) → asked (program ∷ codes "token-add" ∷ codes "hall.db" ∷ []) ≡ none (kinds.MissingRequiredArgument ∷ [])
+pub no_token : (program : List ℕ) → asked_on_hall program "token-add" [] ≡ lacks_argument
 unfolding clap_on_literals asked
 no_token program = refl
 
-pub serves_shop : (program listen : List ℕ) → asked (program ∷ codes "serve" ∷ codes "hall.db" ∷ (codes "--listen=" ++ listen) ∷ []) ≡ serves (codes "hall.db") listen None false
+pub serves_shop : (program listen : List ℕ) → asked_to_serve program listen [] ≡ serves hall listen None false
 unfolding clap_on_literals asked
 serves_shop program listen = refl
 
 pub serves_so_many : (program listen connections : List ℕ)
-    → asked (program ∷ codes "serve" ∷ codes "hall.db" ∷ (codes "--listen=" ++ listen) ∷ (codes "--connections=" ++ connections) ∷ []) ≡ serves (codes "hall.db") listen (Some connections) false
+    → asked_to_serve program listen ((codes "--connections=" ++ connections) ∷ []) ≡ serves hall listen (Some connections) false
 unfolding clap_on_literals asked
 serves_so_many program listen connections = refl
 
-pub serves_and_logs : (program listen : List ℕ) → asked (program ∷ codes "serve" ∷ codes "hall.db" ∷ (codes "--listen=" ++ listen) ∷ codes "--log" ∷ []) ≡ serves (codes "hall.db") listen None true
+pub serves_and_logs : (program listen : List ℕ) → asked_to_serve program listen (codes "--log" ∷ []) ≡ serves hall listen None true
 unfolding clap_on_literals asked
 serves_and_logs program listen = refl
 
-pub signed_connections : asked (plain_words (codes "boxoffice" ∷ codes "serve" ∷ codes "hall.db" ∷ codes "--listen" ∷ codes "[::1]:80" ∷ codes "--connections" ∷ codes "-1" ∷ []))
-    ≡ serves (codes "hall.db") (codes "[::1]:80") (Some []) false
+pub signed_connections : asked (plain_words (codes "boxoffice" ∷ codes "serve" ∷ hall ∷ codes "--listen" ∷ codes "[::1]:80" ∷ codes "--connections" ∷ codes "-1" ∷ []))
+    ≡ serves hall (codes "[::1]:80") (Some []) false
 unfolding clap_on_literals asked
 signed_connections = refl
 
-pub no_listen : (program : List ℕ) → asked (program ∷ codes "serve" ∷ codes "hall.db" ∷ []) ≡ none (kinds.MissingRequiredArgument ∷ [])
+pub no_listen : (program : List ℕ) → asked_on_hall program "serve" [] ≡ lacks_argument
 unfolding clap_on_literals asked
 no_listen program = refl
 
-pub works_off : (program : List ℕ) → asked (program ∷ codes "periodic" ∷ codes "hall.db" ∷ []) ≡ works (codes "hall.db")
+pub works_off : (program : List ℕ) → asked_on_hall program "periodic" [] ≡ works hall
 unfolding clap_on_literals asked
 works_off program = refl
 
-pub no_file : (program : List ℕ) → asked (program ∷ codes "periodic" ∷ []) ≡ none (kinds.MissingRequiredArgument ∷ [])
+pub no_file : (program : List ℕ) → asked_alone program "periodic" ≡ lacks_argument
 unfolding clap_on_literals asked
 no_file program = refl
 
-pub exports_positions : (program : List ℕ) → asked (program ∷ codes "export" ∷ codes "hall.db" ∷ []) ≡ exports (codes "hall.db")
+pub exports_positions : (program : List ℕ) → asked_on_hall program "export" [] ≡ exports hall
 unfolding clap_on_literals asked
 exports_positions program = refl
 
-pub no_export : (program : List ℕ) → asked (program ∷ codes "export" ∷ []) ≡ none (kinds.MissingRequiredArgument ∷ [])
+pub no_export : (program : List ℕ) → asked_alone program "export" ≡ lacks_argument
 unfolding clap_on_literals asked
 no_export program = refl
 
-pub migrates_tables : (program : List ℕ) → asked (program ∷ codes "migrate" ∷ codes "hall.db" ∷ []) ≡ migrates (codes "hall.db")
+pub migrates_tables : (program : List ℕ) → asked_on_hall program "migrate" [] ≡ migrates hall
 unfolding clap_on_literals asked
 migrates_tables program = refl
 
-pub no_migration : (program : List ℕ) → asked (program ∷ codes "migrate" ∷ []) ≡ none (kinds.MissingRequiredArgument ∷ [])
+pub no_migration : (program : List ℕ) → asked_alone program "migrate" ≡ lacks_argument
 unfolding clap_on_literals asked
 no_migration program = refl
 
-pub reports_sales : (program : List ℕ) → asked (program ∷ codes "report" ∷ codes "hall.db" ∷ codes "sales" ∷ []) ≡ reports (codes "hall.db") (codes "sales") None
+pub reports_sales : (program : List ℕ) → asked_on_hall program "report" (codes "sales" ∷ []) ≡ reports hall (codes "sales") None
 unfolding clap_on_literals asked
 reports_sales program = refl
 
-pub reports_door : (program list : List ℕ) → asked (program ∷ codes "report" ∷ codes "hall.db" ∷ codes "door" ∷ (codes "--list=" ++ list) ∷ []) ≡ reports (codes "hall.db") (codes "door") (Some list)
+pub reports_door : (program list : List ℕ) → asked_on_hall program "report" (codes "door" ∷ (codes "--list=" ++ list) ∷ []) ≡ reports hall (codes "door") (Some list)
 unfolding clap_on_literals asked
 reports_door program list = refl
 
-pub no_report : (program : List ℕ) → asked (program ∷ codes "report" ∷ codes "hall.db" ∷ []) ≡ none (kinds.MissingRequiredArgument ∷ [])
+pub no_report : (program : List ℕ) → asked_on_hall program "report" [] ≡ lacks_argument
 unfolding clap_on_literals asked
 no_report program = refl
 
-pub imports_vouchers : (program : List ℕ) → asked (program ∷ codes "import-vouchers" ∷ codes "hall.db" ∷ codes "codes.csv" ∷ []) ≡ imports (codes "hall.db") (codes "codes.csv")
+pub imports_vouchers : (program : List ℕ) → asked_on_hall program "import-vouchers" (codes "codes.csv" ∷ []) ≡ imports hall (codes "codes.csv")
 unfolding clap_on_literals asked
 imports_vouchers program = refl
 
-pub no_csv : (program : List ℕ) → asked (program ∷ codes "import-vouchers" ∷ codes "hall.db" ∷ []) ≡ none (kinds.MissingRequiredArgument ∷ [])
+pub no_csv : (program : List ℕ) → asked_on_hall program "import-vouchers" [] ≡ lacks_argument
 unfolding clap_on_literals asked
 no_csv program = refl

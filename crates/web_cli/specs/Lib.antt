@@ -1,4 +1,5 @@
 pub mod Asked
+pub mod Examples
 pub mod Faults
 pub mod FeedTicks
 pub mod Line

@@ -5,12 +5,21 @@ use Rattle.std.specs.declared.net.socket_addr.SocketAddr.{SocketAddr}
 use Rattle.base_values.specs.Slugs.{is_slug}
 use Rattle.web_connection.specs.declared.failure.Failure.TheVariants as failures
 use Rattle.base_devices.specs.Told.{Adds}
+use Rattle.base_devices.specs.declared.device.Drain.{Ghosts}
 use Rattle.base_devices.specs.declared.device.Refused.{Refused}
-use Rattle.web_http.specs.Written.{Page, Writes}
+use Rattle.web_http.specs.Written.{Page, Writes, writer_page}
 use Rattle.web_cli.specs.declared.fault.RunFault.{RunFault}
 use Rattle.web_cli.specs.declared.fault.RunFault.TheVariants as faults
 use Rattle.web_cli.specs.declared.values.Report.{Report}
 use Rattle.web_cli.specs.Values.{AreServeValues, is_token}
+
+-- what is said of a call by the page of its writer before it, the page after it, and its result
+abbrev pub OnPage : {W R : Type 0} → Ghosts W → (Page → Page → R → Type 0) → W → W → R → Type 0
+OnPage g Comes before after result = Comes (writer_page g before) (writer_page g after) result
+
+-- a line of two texts was written, or where the writer failed a part of it
+abbrev pub WritesLine : List ℕ → List ℕ → Page → Page → Result (Unit {0}) Refused → Type 0
+WritesLine first second old new written = Writes written (first ++ (second ++ 10 ∷ [])) old new
 
 -- how a command ends that was done, by whether what it says was written
 abbrev pub said : Result (Unit {0}) Refused → Result (Unit {0}) RunFault

@@ -3,8 +3,7 @@
 ghost use Rattle.std.specs.Prelude.{ℕ, List, Result};
 ghost use Rattle.std.specs.declared.net.socket_addr.SocketAddr.{SocketAddr};
 ghost use Rattle.base_values.specs.Slugs.{IsSlug};
-ghost use Rattle.web_http.specs.Written.{writer_page};
-ghost use Rattle.web_cli.specs.Saying.{ExportsFile, TellsListening};
+ghost use Rattle.web_cli.specs.Saying.{ExportsFile, OnPage, TellsListening};
 ghost use Rattle.web_cli.specs.Values.{IsToken};
 ghost use Rattle.web_cli.specs.declared.fault.RunFault.{RunFault};
 ghost use Rattle.web_cli.specs.declared.values.Report.{Report};
@@ -77,8 +76,8 @@ pub trait HouseFiles {
         writer: &mut W,
     ) -> Result<(), RunFault>
         ensures served { served file.now place.now.addr place.now.connections result }
-        ensures said { TellsListening place.now.text.now
-            (writer_page W.Drain writer.old) (writer_page W.Drain writer.new) result };
+        ensures said { OnPage W.Drain
+            (TellsListening place.now.text.now) writer.old writer.new result };
 
     /// Does the periodic work of the shop in a file at the system's moment, and tells what was done: `expired E, deleted D, sent S`. Faults:
     /// 80 where the file can't be opened, 60 to 63 where it isn't a shop's that is whole, or what was done couldn't be written, 85 where
@@ -96,8 +95,7 @@ pub trait HouseFiles {
     /// can't be opened, 60 to 63 where it isn't a shop's that is whole or the store fails, 73 where the writer fails, and 6; then a beginning
     /// was written, perhaps nothing.
     fn export<W: Drain>(&self, alloc: Global, file: &str, writer: &mut W) -> Result<(), RunFault>
-        ensures { ExportsFile exported file.now
-            (writer_page W.Drain writer.old) (writer_page W.Drain writer.new) result };
+        ensures { OnPage W.Drain (ExportsFile exported file.now) writer.old writer.new result };
 
     /// Adds the vouchers of a CSV file to the shop in a file, and tells of each row what became of it: its code, and `added`, `same`, `other`
     /// or `refused N`. Faults, in this order: those of the shop's file, 80 where it can't be opened and 60 to 63 where it isn't a shop's that

@@ -1,8 +1,7 @@
 //! What a command on a shop's file writes.
 
-ghost use Rattle.std.specs.Prelude.{◌≡◌, ◌++◌, [], ◌∷◌};
-ghost use Rattle.web_http.specs.Written.{Writes, writer_page};
-ghost use Rattle.web_cli.specs.Saying.{said};
+ghost use Rattle.std.specs.Prelude.{◌≡◌, []};
+ghost use Rattle.web_cli.specs.Saying.{OnPage, WritesLine, said};
 
 use crate::fault::RunFault;
 use base_devices::{Drain, Refused};
@@ -11,8 +10,7 @@ use web_http::write_all;
 
 // Writes a text, and ends the line.
 fn end_line<W: Drain>(writer: &mut W, text: &[u8]) -> Result<(), Refused>
-    ensures { Writes result (text.now ++ 10 ∷ [])
-        (writer_page W.Drain writer.old) (writer_page W.Drain writer.new) }
+    ensures { OnPage W.Drain (WritesLine [] text.now) writer.old writer.new result }
 {
     match write_all(writer, text) {
         Ok(()) => write_all(writer, b"\n"),
@@ -22,8 +20,7 @@ fn end_line<W: Drain>(writer: &mut W, text: &[u8]) -> Result<(), Refused>
 
 /// Writes a line of two texts. Where the writer refuses, a part of it was written, and the writer has counted it.
 pub fn say<W: Drain>(writer: &mut W, first: &[u8], second: &[u8]) -> Result<(), Refused>
-    ensures { Writes result (first.now ++ (second.now ++ 10 ∷ []))
-        (writer_page W.Drain writer.old) (writer_page W.Drain writer.new) }
+    ensures { OnPage W.Drain (WritesLine first.now second.now) writer.old writer.new result }
 {
     match write_all(writer, first) {
         Ok(()) => end_line(writer, second),

@@ -13,8 +13,8 @@ use std::alloc::{AllocError, Global};
 const SHOPS_FILE: &str = "The shop's file";
 
 // What follows the program's name where its version is asked for: the version, whose first number is that of the tables which it opens; that
-// of the tables; and the kit by which it is proved and compiled, as `rt version` prints it.
-const VERSION: &str = "3.0.0\ntables: version 3\nkit: rattle-kit-13f logic dac8208d650f15bf";
+// of the tables; and the kit by which it is proved and compiled, as `rt version` prints it but for the letter of its edition.
+const VERSION: &str = "3.0.0\ntables: version 3\nkit: rattle-kit-13 logic dac8208d650f15bf";
 
 /// The version of the program, as `--version` names it first.
 pub fn program_version() -> &'static str {

@@ -10,5 +10,5 @@ pub mod step;
 
 pub use desk::Desk;
 pub use failure::Failure;
-pub use room::{Room, blank};
+pub use room::{Piece, Room, blank};
 pub use run::{run_stream, serve_desk};

@@ -6,15 +6,22 @@ use std::alloc::{AllocError, Global};
 use web_http::frames::Frames;
 
 /// The most bytes that one call of the reader gives.
-const PIECE: usize = 65536;
+const MOST: usize = 65536;
+
+/// Room for what one call of a reader gives.
+#[derive(Drop)]
+pub struct Piece {
+    /// Its bytes.
+    pub bytes: Vec<u8>,
+    ghost size: { length bytes.items ≡ 65536 },
+}
 
 /// The room of a connection: what came and is not yet taken, and what one call of the reader gives. It is made once, and
 /// serves one connection after another.
 #[derive(Drop)]
 pub struct Room {
     pub(crate) frames: Frames,
-    pub(crate) piece: Vec<u8>,
-    ghost size: { length piece.items ≡ 65536 },
+    pub(crate) piece: Piece,
 }
 
 /// So many bytes of 0, as room for what a read gives.
@@ -24,13 +31,23 @@ pub fn blank(alloc: Global, size: usize) -> Result<Vec<u8>, AllocError>
     vec![in alloc; 0u8; size]
 }
 
+impl Piece {
+    /// A piece of 65,536 bytes.
+    pub fn new(alloc: Global) -> Result<Piece, AllocError>
+        ensures { IfOk result (λ piece. length piece.bytes.items ≡ 65536) }
+    {
+        let bytes = blank(alloc, MOST)?;
+        Ok(Piece { bytes })
+    }
+}
+
 impl Room {
     /// Room for the connections that come. Nothing has come yet.
     pub fn new(alloc: Global) -> Result<Room, AllocError>
         ensures { IfOk result (λ room. room.frames.left ≡ []) }
     {
         let frames = Frames::new(alloc)?;
-        let piece = blank(alloc, PIECE)?;
+        let piece = Piece::new(alloc)?;
         Ok(Room { frames, piece })
     }
 }

@@ -1,11 +1,12 @@
 //! A connection, from its first byte to its end.
 
-ghost use Rattle.std.specs.Prelude.{◌≡◌, ◌+◌, ◌≤◌, []};
-ghost use Rattle.web_connection.specs.Run.{AtTick, CountedAll, CountedIn, IsPiece, RunLeads, TakesIn, device_counts, devices_at, most_reads};
+ghost use Rattle.std.specs.Prelude.{◌≡◌, ◌+◌, []};
+ghost use Rattle.web_connection.specs.Run.{AtTick, CountedIn, IsPiece, TakesIn};
+ghost use Rattle.web_connection.specs.Outside.{RunsFrom, RunsOver, outside};
 
 use crate::desk::Desk;
 use crate::failure::Failure;
-use crate::room::Room;
+use crate::room::{Piece, Room};
 use crate::step::serve_ready;
 use base_devices::device::{Drain, Source, Ticks};
 use std::alloc::Global;
@@ -39,21 +40,16 @@ fn take_in<R: Source>(
 fn serve_all<R: Source, T: Ticks, D: Desk, W: Drain>(
     alloc: Global,
     frames: &mut Frames,
-    piece: &mut [u8],
+    piece: &mut Piece,
     reader: &mut R,
     ticks: &mut T,
     desk: &mut D,
     writer: &mut W,
 ) -> Result<(), Failure>
-    requires empty { frames.old.left ≡ [] }
-    requires piece { IsPiece piece.old }
-    ensures leads { RunLeads (AtTick T.reads D.serves)
-        (devices_at R.Source T.Ticks W.Drain reader.old ticks.old desk.old writer.old)
-        (devices_at R.Source T.Ticks W.Drain reader.new ticks.new desk.new writer.new) result }
-    ensures counted { CountedAll result
-        (device_counts R.Source T.Ticks W.Drain reader.old ticks.old writer.old)
-        (device_counts R.Source T.Ticks W.Drain reader.new ticks.new writer.new) }
-    ensures calls { R.calls reader.new ≤ R.calls reader.old + most_reads }
+    requires { frames.old.left ≡ [] }
+    ensures { RunsOver (AtTick T.reads D.serves) desk.old desk.new
+        (outside R.Source T.Ticks W.Drain reader.old ticks.old writer.old)
+        (outside R.Source T.Ticks W.Drain reader.new ticks.new writer.new) result }
 {
     for turn in 0..1_000_000u32 {
         match serve_ready(alloc, frames, ticks, desk, writer) {
@@ -61,7 +57,7 @@ fn serve_all<R: Source, T: Ticks, D: Desk, W: Drain>(
             Ok(false) => return Ok(()),
             Err(failure) => return Err(failure),
         }
-        match take_in(frames, piece, reader) {
+        match take_in(frames, &mut piece.bytes, reader) {
             Ok(true) => {}
             Ok(false) => return Ok(()),
             Err(failure) => return Err(failure),
@@ -86,13 +82,9 @@ pub fn run_stream<R: Source, T: Ticks, D: Desk, W: Drain>(
     desk: &mut D,
     writer: &mut W,
 ) -> Result<(), Failure>
-    ensures leads { RunLeads (AtTick T.reads D.serves)
-        (devices_at R.Source T.Ticks W.Drain reader.old ticks.old desk.old writer.old)
-        (devices_at R.Source T.Ticks W.Drain reader.new ticks.new desk.new writer.new) result }
-    ensures counted { CountedAll result
-        (device_counts R.Source T.Ticks W.Drain reader.old ticks.old writer.old)
-        (device_counts R.Source T.Ticks W.Drain reader.new ticks.new writer.new) }
-    ensures calls { R.calls reader.new ≤ R.calls reader.old + most_reads }
+    ensures { RunsOver (AtTick T.reads D.serves) desk.old desk.new
+        (outside R.Source T.Ticks W.Drain reader.old ticks.old writer.old)
+        (outside R.Source T.Ticks W.Drain reader.new ticks.new writer.new) result }
 {
     let frames = &mut room.frames;
     frames.clear();
@@ -107,13 +99,9 @@ pub fn serve_desk<R: Source, T: Ticks, D: Desk + Drop, W: Drain>(
     desk: D,
     writer: &mut W,
 ) -> Result<(), Failure>
-    ensures leads { (last : D) × RunLeads (AtTick T.reads D.serves)
-        (devices_at R.Source T.Ticks W.Drain reader.old ticks.old desk writer.old)
-        (devices_at R.Source T.Ticks W.Drain reader.new ticks.new last writer.new) result }
-    ensures counted { CountedAll result
-        (device_counts R.Source T.Ticks W.Drain reader.old ticks.old writer.old)
-        (device_counts R.Source T.Ticks W.Drain reader.new ticks.new writer.new) }
-    ensures calls { R.calls reader.new ≤ R.calls reader.old + most_reads }
+    ensures { RunsFrom (AtTick T.reads D.serves) desk
+        (outside R.Source T.Ticks W.Drain reader.old ticks.old writer.old)
+        (outside R.Source T.Ticks W.Drain reader.new ticks.new writer.new) result }
 {
     let mut desk = desk;
     let Ok(mut room) = Room::new(alloc) else {

@@ -1,8 +1,7 @@
 //! A stream of requests to the shop of an office.
 
-ghost use Rattle.std.specs.Prelude.{◌+◌, ◌≤◌};
-ghost use Rattle.web_connection.specs.Run.{CountedAll, RunLeads, device_counts, devices_at, most_reads};
-ghost use Rattle.web_arrivals.specs.DeskView.{DeskView, desk_with, trait_meaning};
+ghost use Rattle.web_connection.specs.Outside.{RunsFrom, outside};
+ghost use Rattle.web_arrivals.specs.DeskView.{desk_with, trait_meaning};
 ghost use Rattle.web_arrivals.specs.Served.{Serves};
 
 use crate::desk::ShopDesk;
@@ -22,14 +21,10 @@ pub fn serve_office<R: Source, K: Ticks, T: Tables + Drop, B: Dues + Drop, W: Dr
     office: Office<B>,
     writer: &mut W,
 ) -> Result<(), Failure>
-    ensures leads { (last : DeskView T) × RunLeads (Serves (trait_meaning T.Tables))
-        (devices_at R.Source K.Ticks W.Drain reader.old ticks.old
-        (desk_with tables office.organizer office.event office.state) writer.old)
-        (devices_at R.Source K.Ticks W.Drain reader.new ticks.new last writer.new) result }
-    ensures counted { CountedAll result
-        (device_counts R.Source K.Ticks W.Drain reader.old ticks.old writer.old)
-        (device_counts R.Source K.Ticks W.Drain reader.new ticks.new writer.new) }
-    ensures calls { R.calls reader.new ≤ R.calls reader.old + most_reads }
+    ensures { RunsFrom (Serves (trait_meaning T.Tables))
+        (desk_with tables office.organizer office.event office.state)
+        (outside R.Source K.Ticks W.Drain reader.old ticks.old writer.old)
+        (outside R.Source K.Ticks W.Drain reader.new ticks.new writer.new) result }
 {
     let Ok(desk) = ShopDesk::over(alloc, tables, office) else {
         return Err(Failure::Memory);

@@ -2,10 +2,12 @@
 
 ghost use Rattle.std.specs.Prelude.{◌≡◌, ◌++◌, List, [], ◌∷◌, IfOk};
 ghost use Rattle.base_values.specs.declared.answer.Answer.TheVariants.{Unavailable};
-ghost use Rattle.web_arrivals.specs.Deliveries.{Opening, Delivery, told, Running, IsRunning, after_act, Views, StandsFor, IsAnswered, delivered};
+ghost use Rattle.web_arrivals.specs.Deliveries.{Delivery, IsAnswered, Opening, Running, after_act, delivered, told};
+ghost use Rattle.model_answers.specs.CallsLeave.{KnowsStill, MayLeaveNoMore, OfItsHouse};
 ghost use Rattle.model_answers.specs.ShopView.{ShopView};
 ghost use Rattle.web_arrivals.specs.Coming.{arrival_with, number_of};
-ghost use Rattle.web_arrivals.specs.DeskView.{House, trait_meaning, worded};
+ghost use Rattle.web_arrivals.specs.DeskView.{trait_meaning, worded};
+ghost use Rattle.web_arrivals.specs.Seen.{HasList, HasRunning, HasShop};
 ghost use Rattle.web_arrivals.specs.Served.{ServesOnce};
 
 use crate::desk::ShopDesk;
@@ -24,15 +26,12 @@ impl<T: Tables, B: Dues> ShopDesk<T, B> {
         ensures event { self.new.event ≡ self.old.event }
         ensures office { self.new.state ≡ self.old.state }
         ensures sure { T.sure self.new.tables → T.sure self.old.tables }
-        ensures found { T.sure self.new.tables → (house : House) → T.knows self.old.tables house
-            → IfOk result (λ number. number ≡ number_of house.tokens frame.now) }
-        ensures same { T.sure self.new.tables → (v : ShopView)
-            → Views T.holds self.old.tables self.old.state v
-            → Views T.holds self.new.tables self.new.state v }
-        ensures house { T.sure self.new.tables → (house : House) → T.knows self.old.tables house
-            → T.knows self.new.tables house }
-        ensures crash { (left : ShopView) → T.may_leave self.new.tables left
-            → T.may_leave self.old.tables left }
+        ensures found { OfItsHouse T.sure T.knows self.old.tables self.new.tables
+            (λ house. IfOk result (λ number. number ≡ number_of house.tokens frame.now)) }
+        ensures same { let tables = trait_meaning T.Tables in T.sure self.new.tables
+            → (v : ShopView) → HasShop tables self.old v → HasShop tables self.new v }
+        ensures house { KnowsStill T.sure T.knows self.old.tables self.new.tables }
+        ensures crash { MayLeaveNoMore T.may_leave self.old.tables self.new.tables }
     {
         match self.shop.wording().token_digest(frame) {
             None => Ok(None),
@@ -46,20 +45,18 @@ impl<T: Tables, B: Dues> ShopDesk<T, B> {
         ensures event { self.new.event ≡ self.old.event }
         ensures office { result ≡ Unavailable → self.new.state ≡ self.old.state }
         ensures sure { T.sure self.new.tables → T.sure self.old.tables }
-        ensures house { T.sure self.new.tables → (house : House) → T.knows self.old.tables house
-            → T.knows self.new.tables house }
-        ensures served { T.sure self.new.tables → (v : ShopView)
-            → Views T.holds self.old.tables self.old.state v
-            → IsAnswered (worded self.old) arrival v result
-            (λ w. Views T.holds self.new.tables self.new.state w) }
-        ensures stands { T.sure self.new.tables → (p : Opening) (ds : List Delivery)
-            → StandsFor (worded self.old) T.holds self.old.tables self.old.state p ds
-            → StandsFor (worded self.old) T.holds self.new.tables self.new.state p
-            (ds ++ delivered arrival result ∷ [])
-            × (told (worded self.old) p ds (delivered arrival result) ≡ result) }
-        ensures running { T.sure self.new.tables → (r : Running)
-            → IsRunning (worded self.old) T.holds T.may_leave self.old.tables self.old.state r
-            → IsRunning (worded self.old) T.holds T.may_leave self.new.tables self.new.state
+        ensures house { KnowsStill T.sure T.knows self.old.tables self.new.tables }
+        ensures served { let tables = trait_meaning T.Tables in T.sure self.new.tables
+            → (v : ShopView) → HasShop tables self.old v
+            → IsAnswered (worded self.old) arrival v result (λ w. HasShop tables self.new w) }
+        ensures stands { let tables = trait_meaning T.Tables in let words = worded self.old in
+            T.sure self.new.tables → (p : Opening) (ds : List Delivery)
+            → HasList tables words self.old p ds
+            → HasList tables words self.new p (ds ++ delivered arrival result ∷ [])
+            × (told words p ds (delivered arrival result) ≡ result) }
+        ensures running { let tables = trait_meaning T.Tables in
+            T.sure self.new.tables → (r : Running) → HasRunning tables (worded self.old) self.old r
+            → HasRunning tables (worded self.old) self.new
             (after_act (worded self.old) arrival result r) }
     {
         if arrival.request.is_write() {

@@ -6,10 +6,10 @@ use Rattle.web_http.specs.Messages.{Message}
 use Rattle.web_turns.specs.declared.turns.Next.{Next}
 use Rattle.web_turns.specs.declared.turns.Next.TheVariants as nexts
 use Rattle.web_turns.specs.Acts.{Between}
-use Rattle.web_turns.specs.Halls.{Caller, Callers, Does, DoesAll, IsFree, LetsIn, callers, with_caller, with_place}
+use Rattle.web_turns.specs.Halls.{Caller, Callers, Does, DoesAll, IsFree, LetsIn, TurnsAt, callers, with_caller, with_place}
 use Rattle.web_turns.specs.Talks.{begun}
 use Rattle.web_turns.proofs.StoryLemmas.{own_story}
-use Rattle.web_server.specs.Visits.{AnswersCallers, EndsAtOnce, EndsEarly, Happened, Rearranged, Rearranges, RoundsEnd, Served}
+use Rattle.web_server.specs.Visits.{AnswersCallers, EndsAtOnce, EndsEarly, Happened, Hosts, Rearranged, Rearranges, Reseats, RoundsEnd, Served}
 use Rattle.web_connection.specs.declared.failure.Failure.TheVariants as failures
 use Rattle.web_cli.specs.declared.fault.RunFault.{RunFault}
 use Rattle.web_cli.specs.declared.fault.RunFault.TheVariants as faults
@@ -38,6 +38,22 @@ rearranges_more a b c (nexts.Turn place ∷ os) ps x y = absurd x
 pub rearranged_more : (a b c : Callers) → Rearranged a b → Rearranged b c → Rearranged a c
 rearranged_more a b c x y = record { order = x.order ++ y.order; all = rearranges_more a b c x.order y.order x.all y.all }
 
+-- ---- the same, with those who are let in still
+
+pub reseats_none : (old new : Callers) (before left : ℕ) → new ≡ old → left ≡ before → Reseats old new before left
+reseats_none old new before left is same = record {
+  hall = rearranged_none old new is;
+  count = omega (arith, ap (λ (c : Callers). c.came) is, same);
+}
+
+pub reseats_leaves : (old new : Callers) (before left place : ℕ) → new ≡ with_place place None old → left ≡ before → Reseats old new before left
+reseats_leaves old new before left place is same =
+    let came : new.came ≡ old.came = ap (λ (c : Callers). c.came) is in
+    record { hall = rearranged_leaves old new place is; count = omega (arith, came, same) }
+
+pub reseats_more : (a b c : Callers) (l m n : ℕ) → Reseats a b l m → Reseats b c m n → Reseats a c l n
+reseats_more a b c l m n x y = record { hall = rearranged_more a b c x.hall y.hall; count = omega (arith, x.count, y.count) }
+
 -- ---- whatever happens
 
 module _ {D : Type 0} (Serves : D → Tick → Message → Answer → D → Type 0) where
@@ -62,6 +78,23 @@ module _ {D : Type 0} (Serves : D → Tick → Message → Answer → D → Type
 
   pub happened_more : (from mid to : Between D) (a b c : Callers) → Happened Serves from mid a b → Happened Serves mid to b c → Happened Serves from to a c
   happened_more from mid to a b c x y = record { order = x.order ++ y.order; all = does_more from mid to a b c x.order y.order x.all y.all }
+
+  pub hosts_none : (from to : Between D) (old new : Callers) (before left : ℕ) → to ≡ from → new ≡ old → left ≡ before → Hosts Serves from to old new before left
+  hosts_none from to old new before left same is stays = record {
+    hall = happened_none from to old new same is;
+    count = omega (arith, ap (λ (c : Callers). c.came) is, stays);
+  }
+
+  pub hosts_turn : (from to : Between D) (old new : Callers) (left place : ℕ) → TurnsAt Serves from to place old new → Hosts Serves from to old new left left
+  hosts_turn from to old new left place turns =
+      let came : new.came ≡ old.came = ap (λ (c : Callers). c.came) turns.2 in
+      record { hall = happened_one from to old new (nexts.Turn place) turns; count = omega (arith, came) }
+
+  pub hosts_of : (from to : Between D) (old new : Callers) (before left : ℕ) → to ≡ from → Reseats old new before left → Hosts Serves from to old new before left
+  hosts_of from to old new before left same x = record { hall = happened_of from to old new same x.hall; count = x.count }
+
+  pub hosts_more : (from mid to : Between D) (a b c : Callers) (l m n : ℕ) → Hosts Serves from mid a b l m → Hosts Serves mid to b c m n → Hosts Serves from to a c l n
+  hosts_more from mid to a b c l m n x y = record { hall = happened_more from mid to a b c x.hall y.hall; count = omega (arith, x.count, y.count) }
 
   -- from an empty hall on
   pub served_by : (from to : Between D) (count most : ℕ) (now : Callers) → now.came ≤ most → Happened Serves from to (callers 0 (replicate count None)) now → Served Serves most from to

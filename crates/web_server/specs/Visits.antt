@@ -1,5 +1,5 @@
 -- Callers at once, at one desk.
-use Rattle.std.specs.Prelude.{◌≡◌, ◌≤◌, ◌⊎◌, ⊤, ℕ, zero, suc, List, [], ◌∷◌, None, Result, Ok, Err}
+use Rattle.std.specs.Prelude.{◌≡◌, ◌+◌, ◌≤◌, ◌⊎◌, ⊤, ℕ, zero, suc, List, [], ◌∷◌, None, Result, Ok, Err}
 use Rattle.base_values.specs.declared.answer.Answer.{Answer}
 use Rattle.base_devices.specs.declared.device.Tick.{Tick}
 use Rattle.web_http.specs.Messages.{Message}
@@ -27,6 +27,17 @@ pub record Rearranged (old new : Callers) : Type 0 where
 pub record Happened {D : Type 0} (Serves : D → Tick → Message → Answer → D → Type 0) (from to : Between D) (old new : Callers) : Type 0 where
   pub order : List Next
   pub all : DoesAll Serves from to old new order
+
+-- What a deed of a house leaves in which nobody has a turn: callers came and left, and each who came was one of those who were to be let in
+-- still.
+pub record Reseats (old new : Callers) (before left : ℕ) : Type 0 where
+  pub hall : Rearranged old new
+  pub count : new.came + left ≤ old.came + before
+
+-- the same of a deed in which callers have turns too
+pub record Hosts {D : Type 0} (Serves : D → Tick → Message → Answer → D → Type 0) (from to : Between D) (old new : Callers) (before left : ℕ) : Type 0 where
+  pub hall : Happened Serves from to old new
+  pub count : new.came + left ≤ old.came + before
 
 -- At most so many callers came, many of them at once, and each has the conversation of its own bytes.
 pub record Served {D : Type 0} (Serves : D → Tick → Message → Answer → D → Type 0) (most : ℕ) (old new : Between D) : Type 0 where

@@ -1,6 +1,6 @@
 //! The door of a house: who waits there.
 
-ghost use Rattle.std.specs.Prelude.{◌≡◌, IfErr};
+ghost use Rattle.std.specs.Prelude.{IsOkUnless};
 ghost use Rattle.web_cli.specs.declared.fault.RunFault.TheVariants.{Listen};
 
 use mio::net::{TcpListener, TcpStream};
@@ -37,7 +37,7 @@ fn is_callers(error: &io::Error) -> bool {
 
 /// The next caller.
 pub(crate) fn next_comer(listener: &TcpListener) -> Result<Comer, RunFault>
-    ensures { IfErr result (λ fault. fault ≡ Listen) }
+    ensures { IsOkUnless result Listen }
 {
     match listener.accept() {
         Ok((stream, _)) => Ok(Comer::Here(stream)),

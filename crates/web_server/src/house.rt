@@ -1,11 +1,11 @@
 //! A house that is open: its callers, and when they have to go.
 
-ghost use Rattle.std.specs.Prelude.{◌≡◌, ◌+◌, ◌<◌, ◌≤◌, None, true, length, replicate, IfOk, IfErr};
-ghost use Rattle.web_connection.specs.Run.{AtTick, IsPiece};
+ghost use Rattle.std.specs.Prelude.{◌≡◌, ◌+◌, ◌<◌, ◌≤◌, None, true, replicate, IfOk, IsOkUnless};
+ghost use Rattle.web_connection.specs.Run.{AtTick};
 ghost use Rattle.web_cli.specs.declared.fault.RunFault.TheVariants.{Listen};
 ghost use Rattle.web_turns.specs.Acts.{between};
 ghost use Rattle.web_turns.specs.Halls.{IsFree, callers};
-ghost use Rattle.web_server.specs.Visits.{Happened, Rearranged};
+ghost use Rattle.web_server.specs.Visits.{Hosts, Rearranged, Reseats};
 
 use crate::clock::System;
 use crate::door::{Comer, next_comer};
@@ -20,7 +20,7 @@ use std::alloc::{AllocError, Global};
 use std::sync::ledger::Ledger;
 use std::time::Clock;
 use web_cli::{Console, RunFault};
-use web_connection::Desk;
+use web_connection::{Desk, Piece};
 use web_sockets::Peer;
 use web_turns::{Hall, Needs};
 
@@ -89,7 +89,9 @@ impl<'a, R: Clock + System + Console> House<'a, R> {
     }
 
     /// Whether all who were to be let in have come and gone.
-    pub(crate) fn is_over(&self) -> bool {
+    pub(crate) fn is_over(&self) -> bool
+        ensures { result ≡ true → self.now.left ≡ 0 }
+    {
         self.left == 0 && self.is_empty()
     }
 
@@ -114,8 +116,7 @@ impl<'a, R: Clock + System + Console> House<'a, R> {
     // The caller at a place leaves.
     #[tactic(auto, using(crate::proofs::VisitLemmas::rearranged_leaves, crate::proofs::VisitLemmas::rearranged_none))]
     fn part(&mut self, place: usize, why: Parted, now: u64)
-        ensures hall { Rearranged self.old.hall self.new.hall }
-        ensures count { self.new.hall.came + self.new.left ≤ self.old.hall.came + self.old.left }
+        ensures { Reseats self.old.hall self.new.hall self.old.left self.new.left }
     {
         self.log.tell_parted(self.hall.number(place), why);
         if let Some(peer) = self.hall.leave(place) {
@@ -192,8 +193,7 @@ impl<'a, R: Clock + System + Console> House<'a, R> {
     // Where no place is free the caller leaves who has to go first.
     #[tactic(auto, using(crate::proofs::VisitLemmas::rearranged_none))]
     fn make_room(&mut self, now: u64)
-        ensures hall { Rearranged self.old.hall self.new.hall }
-        ensures count { self.new.hall.came + self.new.left ≤ self.old.hall.came + self.old.left }
+        ensures { Reseats self.old.hall self.new.hall self.old.left self.new.left }
     {
         if self.hall.free_place().is_none() {
             if let Some(place) = self.first_to_go(now) {
@@ -206,8 +206,7 @@ impl<'a, R: Clock + System + Console> House<'a, R> {
     #[tactic(auto, using(crate::proofs::VisitLemmas::rearranged_more))]
     fn welcome(&mut self, alloc: Global, stream: TcpStream, now: u64)
         requires { 0 < self.old.left }
-        ensures hall { Rearranged self.old.hall self.new.hall }
-        ensures count { self.new.hall.came + self.new.left ≤ self.old.hall.came + self.old.left }
+        ensures { Reseats self.old.hall self.new.hall self.old.left self.new.left }
     {
         self.left -= 1;
         self.make_room(now);
@@ -220,7 +219,7 @@ impl<'a, R: Clock + System + Console> House<'a, R> {
     fn wait_for_files(&mut self) -> Result<bool, RunFault>
         ensures hall { self.new.hall ≡ self.old.hall }
         ensures left { self.new.left ≡ self.old.left }
-        ensures ends { IfErr result (λ fault. fault ≡ Listen) }
+        ensures ends { IsOkUnless result Listen }
     {
         if self.is_empty() {
             return Err(RunFault::Listen);
@@ -233,9 +232,8 @@ impl<'a, R: Clock + System + Console> House<'a, R> {
     #[tactic(auto, using(crate::proofs::VisitLemmas::rearranged_none))]
     fn let_one_in(&mut self, alloc: Global, now: u64) -> Result<bool, RunFault>
         requires { 0 < self.old.left }
-        ensures hall { Rearranged self.old.hall self.new.hall }
-        ensures count { self.new.hall.came + self.new.left ≤ self.old.hall.came + self.old.left }
-        ensures ends { IfErr result (λ fault. fault ≡ Listen) }
+        ensures reseats { Reseats self.old.hall self.new.hall self.old.left self.new.left }
+        ensures ends { IsOkUnless result Listen }
     {
         match next_comer(&self.listener) {
             Ok(Comer::Here(stream)) => {
@@ -257,9 +255,8 @@ impl<'a, R: Clock + System + Console> House<'a, R> {
 
     /// Lets in who is at the door, as long as there is a place, or one whose caller has to go.
     pub(crate) fn let_in(&mut self, alloc: Global, now: u64) -> Result<(), RunFault>
-        ensures hall { Rearranged self.old.hall self.new.hall }
-        ensures count { self.new.hall.came + self.new.left ≤ self.old.hall.came + self.old.left }
-        ensures ends { IfErr result (λ fault. fault ≡ Listen) }
+        ensures reseats { Reseats self.old.hall self.new.hall self.old.left self.new.left }
+        ensures ends { IsOkUnless result Listen }
     {
         for _ in 0..AT_ONCE {
             if !self.has_comer(now) {
@@ -277,8 +274,7 @@ impl<'a, R: Clock + System + Console> House<'a, R> {
     // Behind a turn a caller whose conversation is over leaves, and any other one waits for what it needs.
     #[tactic(auto, using(crate::proofs::VisitLemmas::rearranged_none))]
     fn note(&mut self, place: usize, before: Needs, now: u64)
-        ensures hall { Rearranged self.old.hall self.new.hall }
-        ensures count { self.new.hall.came + self.new.left ≤ self.old.hall.came + self.old.left }
+        ensures { Reseats self.old.hall self.new.hall self.old.left self.new.left }
     {
         let after = self.hall.needs(place);
         if after == Needs::Nothing {
@@ -293,18 +289,15 @@ impl<'a, R: Clock + System + Console> House<'a, R> {
         &mut self,
         alloc: Global,
         place: usize,
-        piece: &mut [u8],
+        piece: &mut Piece,
         page: &mut Device<Vec<u8>, L, M>,
         ticks: &mut T,
         desk: &mut D,
         now: u64,
     )
-        requires { IsPiece piece.old }
-        ensures hall { Happened (AtTick T.reads D.serves)
+        ensures { Hosts (AtTick T.reads D.serves)
             (between (T.told ticks.old) desk.old) (between (T.told ticks.new) desk.new)
-            self.old.hall self.new.hall }
-        ensures count { self.new.hall.came + self.new.left ≤ self.old.hall.came + self.old.left }
-        ensures piece { length piece.new ≡ length piece.old }
+            self.old.hall self.new.hall self.old.left self.new.left }
     {
         let before = self.hall.needs(place);
         if before == Needs::Nothing {
@@ -326,18 +319,15 @@ impl<'a, R: Clock + System + Console> House<'a, R> {
         &mut self,
         alloc: Global,
         token: Token,
-        piece: &mut [u8],
+        piece: &mut Piece,
         page: &mut Device<Vec<u8>, L, M>,
         ticks: &mut T,
         desk: &mut D,
         now: u64,
     )
-        requires { IsPiece piece.old }
-        ensures hall { Happened (AtTick T.reads D.serves)
+        ensures { Hosts (AtTick T.reads D.serves)
             (between (T.told ticks.old) desk.old) (between (T.told ticks.new) desk.new)
-            self.old.hall self.new.hall }
-        ensures count { self.new.hall.came + self.new.left ≤ self.old.hall.came + self.old.left }
-        ensures piece { length piece.new ≡ length piece.old }
+            self.old.hall self.new.hall self.old.left self.new.left }
     {
         let place = token.0;
         if token == DOOR {
@@ -345,16 +335,16 @@ impl<'a, R: Clock + System + Console> House<'a, R> {
         } else if place < PLACES {
             self.turn(alloc, place, piece, page, ticks, desk, now);
         } else {
+            let bytes = &mut piece.bytes;
             self.partings
-                .hear(place - PLACES, self.registry, token, piece);
+                .hear(place - PLACES, self.registry, token, bytes);
         }
     }
 
     // The caller at a place leaves if its time is up.
     #[tactic(auto, using(crate::proofs::VisitLemmas::rearranged_none))]
     fn end_late(&mut self, place: usize, now: u64)
-        ensures hall { Rearranged self.old.hall self.new.hall }
-        ensures count { self.new.hall.came + self.new.left ≤ self.old.hall.came + self.old.left }
+        ensures { Reseats self.old.hall self.new.hall self.old.left self.new.left }
     {
         let needs = self.hall.needs(place);
         let is_up = match self.since.get(place) {
@@ -368,8 +358,7 @@ impl<'a, R: Clock + System + Console> House<'a, R> {
 
     /// Ends what takes too long, and looks at the door again where there was no file for a caller.
     pub(crate) fn look_round(&mut self, now: u64)
-        ensures hall { Rearranged self.old.hall self.new.hall }
-        ensures count { self.new.hall.came + self.new.left ≤ self.old.hall.came + self.old.left }
+        ensures { Reseats self.old.hall self.new.hall self.old.left self.new.left }
     {
         self.wants = false;
         self.partings.close_late(now);

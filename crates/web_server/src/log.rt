@@ -1,4 +1,6 @@
-//! What a house tells on standard error of its callers. No clause speaks of it.
+//! What a house tells on standard error of its callers. No clause speaks of what is told.
+
+ghost use Rattle.std.specs.Prelude.{◌≡◌, None, false};
 
 use crate::clock::{System, moment_shown};
 use base_dates::moment_text;
@@ -91,6 +93,16 @@ fn status_of(answer: &Answer) -> StatusCode {
     }
 }
 
+// When a log begins, where one is asked for and the clock can be read.
+fn begun_at<R: Clock>(rt: &R, is_asked: bool) -> Option<Instant>
+    ensures { is_asked ≡ false → result ≡ None }
+{
+    match is_asked {
+        true => Instant::now(rt).ok(),
+        false => None,
+    }
+}
+
 /// Where a house tells of its file, its requests and its connections: standard error, or nowhere. A line for which memory is refused isn't written.
 #[derive(Drop)]
 pub struct Log<'a, R> {
@@ -104,11 +116,10 @@ pub struct Log<'a, R> {
 
 impl<'a, R: Clock + System + Console> Log<'a, R> {
     /// A log of the house whose shop is in that file, where one is asked for and the clock can be read.
-    pub fn new(rt: &'a R, alloc: Global, file: &'a str, is_asked: bool) -> Log<'a, R> {
-        let begun = match is_asked {
-            true => Instant::now(rt).ok(),
-            false => None,
-        };
+    pub fn new(rt: &'a R, alloc: Global, file: &'a str, is_asked: bool) -> Log<'a, R>
+        ensures { is_asked ≡ false → result.begun ≡ None }
+    {
+        let begun = begun_at(rt, is_asked);
         Log {
             rt,
             alloc,

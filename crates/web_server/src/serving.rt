@@ -1,12 +1,12 @@
 //! Many connections at once, in one thread.
 
-ghost use Rattle.std.specs.Prelude.{◌≡◌, ◌+◌, ◌≤◌, None, length, replicate, IfOk, IfErr};
+ghost use Rattle.std.specs.Prelude.{◌≡◌, None, replicate, IfErr, IfOk, IsOkUnless};
 ghost use Rattle.base_devices.specs.Blanks.{IsBlankOf};
-ghost use Rattle.web_connection.specs.Run.{AtTick, IsPiece};
+ghost use Rattle.web_connection.specs.Run.{AtTick};
 ghost use Rattle.web_cli.specs.declared.fault.RunFault.TheVariants.{Listen};
 ghost use Rattle.web_turns.specs.Acts.{between};
 ghost use Rattle.web_turns.specs.Halls.{callers};
-ghost use Rattle.web_server.specs.Visits.{AnswersCallers, EndsAtOnce, Happened, Rearranged, RoundsEnd, most_of};
+ghost use Rattle.web_server.specs.Visits.{AnswersCallers, EndsAtOnce, Hosts, Reseats, RoundsEnd, most_of};
 
 use crate::clock::System;
 use crate::house::{DOOR, House};
@@ -22,16 +22,13 @@ use std::net::{Net, TcpListener};
 use std::sync::ledger::{Blank, Ledger};
 use std::time::{Clock, Duration, Instant};
 use web_cli::{Console, RunFault};
-use web_connection::{Desk, blank};
+use web_connection::{Desk, Piece};
 
 /// How many events are heard at once at most.
 const EVENTS: usize = 256;
 
 /// How long a house waits for an event at most, in milliseconds.
 const ROUND: u64 = 250;
-
-/// The most bytes that one read gives.
-const PIECE: usize = 65536;
 
 /// The time of a house: milliseconds since it opened.
 #[derive(Drop)]
@@ -80,8 +77,7 @@ fn look_if_due<R: Clock + System + Console>(
     house: &mut House<'_, R>,
     now: u64,
 )
-    ensures hall { Rearranged house.old.hall house.new.hall }
-    ensures count { house.new.hall.came + house.new.left ≤ house.old.hall.came + house.old.left }
+    ensures { Reseats house.old.hall house.new.hall house.old.left house.new.left }
 {
     if watch.is_due() {
         house.look_round(now);
@@ -89,24 +85,22 @@ fn look_if_due<R: Clock + System + Console>(
 }
 
 // One round: hears what happened, and lets in who is at the door.
+#[tactic(auto, using(crate::proofs::VisitLemmas::happened_none))]
 fn serve_round<R: Clock + System + Console, L: Ledger, M: Ledger, T: Ticks, D: Desk + Attended>(
     alloc: Global,
     watch: &mut Watch<'_, R>,
     poll: &mut Poll,
     events: &mut Events<Global>,
     house: &mut House<'_, R>,
-    piece: &mut [u8],
+    piece: &mut Piece,
     page: &mut Device<Vec<u8>, L, M>,
     ticks: &mut T,
     desk: &mut D,
 ) -> Result<(), RunFault>
-    requires { IsPiece piece.old }
-    ensures hall { Happened (AtTick T.reads D.serves)
+    ensures hosts { Hosts (AtTick T.reads D.serves)
         (between (T.told ticks.old) desk.old) (between (T.told ticks.new) desk.new)
-        house.old.hall house.new.hall }
-    ensures count { house.new.hall.came + house.new.left ≤ house.old.hall.came + house.old.left }
-    ensures ends { IfErr result (λ fault. fault ≡ Listen) }
-    ensures piece { length piece.new ≡ length piece.old }
+        house.old.hall house.new.hall house.old.left house.new.left }
+    ensures ends { IsOkUnless result Listen }
 {
     let most = if house.has_comer(watch.now) { 0 } else { ROUND };
     if poll
@@ -130,17 +124,15 @@ fn serve_rounds<R: Clock + System + Console, L: Ledger, M: Ledger, T: Ticks, D: 
     poll: &mut Poll,
     events: &mut Events<Global>,
     house: &mut House<'_, R>,
-    piece: &mut [u8],
+    piece: &mut Piece,
     page: &mut Device<Vec<u8>, L, M>,
     ticks: &mut T,
     desk: &mut D,
 ) -> Result<(), RunFault>
-    requires { IsPiece piece.old }
-    ensures hall { Happened (AtTick T.reads D.serves)
+    ensures hosts { Hosts (AtTick T.reads D.serves)
         (between (T.told ticks.old) desk.old) (between (T.told ticks.new) desk.new)
-        house.old.hall house.new.hall }
-    ensures count { house.new.hall.came + house.new.left ≤ house.old.hall.came + house.old.left }
-    ensures ends { IfErr result (λ fault. fault ≡ Listen) }
+        house.old.hall house.new.hall house.old.left house.new.left }
+    ensures ends { IsOkUnless result Listen }
 {
     for _ in 0..u64::MAX {
         if house.is_over() {
@@ -165,16 +157,15 @@ fn serve_house<R: Clock + System + Console, L: Ledger, M: Ledger, T: Ticks, D: D
     ticks: &mut T,
     desk: &mut D,
 ) -> Result<(), RunFault>
-    ensures hall { Happened (AtTick T.reads D.serves)
+    ensures hosts { Hosts (AtTick T.reads D.serves)
         (between (T.told ticks.old) desk.old) (between (T.told ticks.new) desk.new)
-        house.old.hall house.new.hall }
-    ensures count { house.new.hall.came + house.new.left ≤ house.old.hall.came + house.old.left }
+        house.old.hall house.new.hall house.old.left house.new.left }
     ensures ends { RoundsEnd result house.old.hall house.new.hall }
 {
     let Ok(mut events) = Events::with_capacity(alloc, EVENTS) else {
         return Err(RunFault::Memory);
     };
-    let Ok(mut piece) = blank(alloc, PIECE) else {
+    let Ok(mut piece) = Piece::new(alloc) else {
         return Err(RunFault::Memory);
     };
     serve_rounds(
@@ -202,10 +193,9 @@ fn serve_with<R: Clock + System + Console, L: Ledger, M: Ledger, T: Ticks, D: De
 ) -> Result<(), RunFault>
     requires calls { IsBlankOf L.Ledger blanks.0 }
     requires failures { IsBlankOf M.Ledger blanks.1 }
-    ensures hall { Happened (AtTick T.reads D.serves)
+    ensures hosts { Hosts (AtTick T.reads D.serves)
         (between (T.told ticks.old) desk.old) (between (T.told ticks.new) desk.new)
-        house.old.hall house.new.hall }
-    ensures count { house.new.hall.came + house.new.left ≤ house.old.hall.came + house.old.left }
+        house.old.hall house.new.hall house.old.left house.new.left }
     ensures ends { RoundsEnd result house.old.hall house.new.hall }
 {
     let mut page = Device {

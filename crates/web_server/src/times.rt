@@ -1,6 +1,6 @@
 //! How long a house waits for a caller.
 
-ghost use Rattle.std.specs.Prelude.{◌≡◌, ◌≤◌, true, false, IfSome};
+ghost use Rattle.std.specs.Prelude.{◌≡◌, ◌≤◌, Some, true, false, IfSome};
 ghost use Rattle.web_server.specs.Places.{MayGo};
 
 use web_turns::Needs;
@@ -32,7 +32,9 @@ pub(crate) struct Crowd {
 
 impl Crowd {
     /// Nobody yet.
-    pub(crate) fn new() -> Crowd {
+    pub(crate) fn new() -> Crowd
+        ensures { result ≡ record { between = 0; within = 0 } }
+    {
         Crowd {
             between: 0,
             within: 0,
@@ -81,7 +83,9 @@ pub(crate) struct Since {
 impl Since {
     /// A caller that came at that moment. It is within its first request from then on, also where it sent nothing yet: else callers that send nothing
     /// would take the places of those who pause between two requests.
-    pub(crate) fn new(now: u64) -> Since {
+    pub(crate) fn new(now: u64) -> Since
+        ensures { result ≡ record { waits = now; began = Some now } }
+    {
         Since {
             waits: now,
             began: Some(now),
@@ -89,7 +93,9 @@ impl Since {
     }
 
     /// The same behind a turn. Whoever waited for bytes, and does still, is within a request.
-    pub(crate) fn behind(self, before: Needs, after: Needs, now: u64) -> Since {
+    pub(crate) fn behind(self, before: Needs, after: Needs, now: u64) -> Since
+        ensures { result.waits ≡ now }
+    {
         let began = match (before, after) {
             (Needs::Bytes, Needs::Bytes) => Some(self.began.unwrap_or(now)),
             _ => None,

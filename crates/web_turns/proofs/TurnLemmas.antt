@@ -15,7 +15,7 @@ use Rattle.web_connection.proofs.RunLemmas.{Chain-messages, Runs-append, broken_
 use Rattle.web_turns.specs.declared.stage.Stage.{Stage}
 use Rattle.web_turns.specs.declared.stage.Stage.TheVariants as stages
 use Rattle.web_turns.specs.Acts.{Act, Between, Records, ticks}
-use Rattle.web_turns.specs.Talks.{Came, Hears, Moves, Seat, Sends, Takes, Talks, Turn, Went, begun, needs_of, recorded}
+use Rattle.web_turns.specs.Talks.{Came, Hears, Moves, Replies, Seat, Sends, Takes, Talks, Turn, Went, begun, needs_of, recorded}
 use Rattle.web_turns.specs.declared.stage.Needs.TheVariants as needs
 use Rattle.web_turns.proofs.RecordLemmas.{Acts-append, ticks-append, went_recorded}
 
@@ -170,12 +170,11 @@ module _ {D : Type 0} (Serves : D → Tick → Message → Answer → D → Type
   }
 
   -- a message was answered, or none was there
-  pub turn_reply : (from to : Between D) (old new : Seat) → old.stage ≡ stages.Goes → old.unsent ≡ [] → new.coming ≡ old.coming → new.gone ≡ old.gone
-      → Went Serves new.coming new.stage (cursor old.left from.told from.desk (Some [])) (cursor new.left to.told to.desk (Some new.unsent)) → Turn Serves from to old new
-  turn_reply from to old new was none coming gone went =
+  pub turn_reply : (from to : Between D) (old new : Seat) → old.stage ≡ stages.Goes → old.unsent ≡ [] → Replies Serves from to [] new.unsent old new → Turn Serves from to old new
+  turn_reply from to old new was none replies =
       let p = cursor old.left from.told from.desk (Some []) in
       let q = cursor new.left to.told to.desk (Some new.unsent) in
-      let r = went_recorded Serves new.coming new.stage p q [] new.unsent refl refl went in record {
+      let r = went_recorded Serves new.coming new.stage p q [] new.unsent refl refl replies.went in record {
         acts = r.0;
         acted = r.1;
         told = r.2;
@@ -183,12 +182,12 @@ module _ {D : Type 0} (Serves : D → Tick → Message → Answer → D → Type
             let before = subst (λ (s : Stage). Went Records old.coming s (recorded talk.bytes [] []) (recorded old.left own talk.text)) was talk.went in
             let all : talk.text ≡ talk.sent = talk.is ∙ (ap (λ (u : List ℕ). talk.sent ++ u) none ∙ append-nil talk.sent) in record {
               bytes = talk.bytes;
-              given = subst (λ (g : Option (List ℕ)). Gives first.coming talk.bytes g) (sym coming) talk.given;
+              given = subst (λ (g : Option (List ℕ)). Gives first.coming talk.bytes g) (sym replies.coming) talk.given;
               text = talk.text ++ new.unsent;
               went = went_on Records new.coming new.stage (recorded talk.bytes [] []) (recorded old.left own talk.text) (recorded new.left (own ++ r.0) (talk.text ++ new.unsent)) before
                   (subst (λ (t : List ℕ). Went Records new.coming new.stage (recorded old.left own t) (recorded new.left (own ++ r.0) (talk.text ++ new.unsent))) (append-nil talk.text) (r.3 own talk.text));
               sent = talk.sent;
               is = ap (λ (u : List ℕ). u ++ new.unsent) all;
-              out = subst (λ (g : Option (List ℕ)). Adds first.gone talk.sent g) (sym gone) talk.out;
+              out = subst (λ (g : Option (List ℕ)). Adds first.gone talk.sent g) (sym replies.gone) talk.out;
             };
       }

@@ -61,6 +61,14 @@ pub record Talks (first : Seat) (own : List Act) (now : Seat) : Type 0 where
   pub is : text ≡ sent ++ now.unsent
   pub out : Adds first.gone sent now.gone
 
+-- Where another message may be there, the first one that is whole is answered at a desk, whose page has this text before and that one behind; nothing
+-- is read or sent meanwhile. Where it goes on it took some of the bytes.
+pub record Replies {D : Type 0} (Serves : D → Tick → Message → Answer → D → Type 0) (from to : Between D) (before behind : List ℕ) (old new : Seat) : Type 0 where
+  pub went : Went Serves new.coming new.stage (cursor old.left from.told from.desk (Some before)) (cursor new.left to.told to.desk (Some behind))
+  pub coming : new.coming ≡ old.coming
+  pub gone : new.gone ≡ old.gone
+  pub takes : new.stage ≡ stages.Goes → length new.left < length old.left
+
 -- whatever conversation it was in goes on, without an act
 abbrev pub Moves : Seat → Seat → Type 0
 Moves old new = (first : Seat) (own : List Act) → Talks first own old → Talks first own new

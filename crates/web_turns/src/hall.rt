@@ -1,7 +1,7 @@
 //! The callers of a house, each at its place.
 
 ghost use Rattle.std.specs.Prelude.{◌≡◌, ℕ, None, length, option_map, replicate, IfOk, IfSome, IfNone, OnOk, OnErr};
-ghost use Rattle.web_connection.specs.Run.{AtTick, IsPiece};
+ghost use Rattle.web_connection.specs.Run.{AtTick};
 ghost use Rattle.web_turns.specs.Acts.{between};
 ghost use Rattle.web_turns.specs.Talks.{begun};
 ghost use Rattle.web_turns.specs.Halls.{FindsFree, IsFree, TurnsAt, at_place, callers, leaves_with, place_needs, with_caller, with_place};
@@ -12,7 +12,7 @@ use base_devices::{Device, Refused, Ticks};
 use std::alloc::{AllocError, Global};
 use std::marker::Model;
 use std::sync::ledger::Ledger;
-use web_connection::Desk;
+use web_connection::{Desk, Piece};
 use web_sockets::Ends;
 
 /// The callers of a house, each at its place. A place that is left is taken again by a later caller, who has a number of its own.
@@ -126,16 +126,14 @@ impl<E: Ends> Hall<E> {
         &mut self,
         alloc: Global,
         place: usize,
-        piece: &mut [u8],
+        piece: &mut Piece,
         page: &mut Device<Vec<u8>, L, M>,
         ticks: &mut T,
         desk: &mut D,
     ) -> Result<(), Refused>
-        requires { IsPiece piece.old }
         ensures turn { TurnsAt (AtTick T.reads D.serves)
             (between (T.told ticks.old) desk.old) (between (T.told ticks.new) desk.new)
             place self.old self.new }
-        ensures piece { length piece.new ≡ length piece.old }
     {
         if place >= self.places.len() {
             return Ok(());

@@ -1,7 +1,7 @@
 //! A place for a caller.
 
-ghost use Rattle.std.specs.Prelude.{◌≡◌, [], None, Some, length, is_none, option_map, IfOk, OnOk, OnErr};
-ghost use Rattle.web_connection.specs.Run.{AtTick, IsPiece};
+ghost use Rattle.std.specs.Prelude.{◌≡◌, [], None, Some, is_none, option_map, IfOk, OnOk, OnErr};
+ghost use Rattle.web_connection.specs.Run.{AtTick};
 ghost use Rattle.web_turns.specs.Acts.{between};
 ghost use Rattle.web_turns.specs.Talks.{begun};
 ghost use Rattle.web_turns.specs.Halls.{IsSpare, TakesTurn, caller, leaves_with, place_needs};
@@ -12,7 +12,7 @@ use base_devices::{Device, Refused, Ticks};
 use std::alloc::{AllocError, Global};
 use std::marker::Model;
 use std::sync::ledger::Ledger;
-use web_connection::Desk;
+use web_connection::{Desk, Piece};
 use web_http::frames::Frames;
 use web_sockets::Ends;
 
@@ -102,16 +102,14 @@ impl<E: Ends> Place<E> {
     pub fn turn<L: Ledger, M: Ledger, T: Ticks, D: Desk>(
         &mut self,
         alloc: Global,
-        piece: &mut [u8],
+        piece: &mut Piece,
         page: &mut Device<Vec<u8>, L, M>,
         ticks: &mut T,
         desk: &mut D,
     ) -> Result<(), Refused>
-        requires { IsPiece piece.old }
         ensures turn { TakesTurn (AtTick T.reads D.serves)
             (between (T.told ticks.old) desk.old) (between (T.told ticks.new) desk.new)
             self.old self.new }
-        ensures piece { length piece.new ≡ length piece.old }
     {
         match &mut self.talk {
             Some(talk) => talk.turn(alloc, piece, page, ticks, desk),

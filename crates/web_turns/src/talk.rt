@@ -1,10 +1,10 @@
 //! A conversation, turn by turn.
 
-ghost use Rattle.std.specs.Prelude.{◌≡◌, ◌<◌, [], Some, length};
-ghost use Rattle.web_connection.specs.Run.{AtTick, IsPiece, cursor};
+ghost use Rattle.std.specs.Prelude.{◌≡◌, []};
+ghost use Rattle.web_connection.specs.Run.{AtTick, IsPiece};
 ghost use Rattle.web_turns.specs.declared.stage.Stage.TheVariants as stages;
 ghost use Rattle.web_turns.specs.Acts.{between};
-ghost use Rattle.web_turns.specs.Talks.{Hears, Moves, Sends, Takes, Turn, Went, begun, needs_of};
+ghost use Rattle.web_turns.specs.Talks.{Hears, Moves, Replies, Sends, Takes, Turn, begun, needs_of};
 
 use crate::stage::{Needs, Stage};
 use base_devices::{Device, Refused, Ticks};
@@ -12,9 +12,9 @@ use std::alloc::Global;
 use std::marker::Model;
 use std::mem;
 use std::sync::ledger::Ledger;
-use web_connection::Desk;
 use web_connection::failure::Step;
 use web_connection::step::step;
+use web_connection::{Desk, Piece};
 use web_http::frames::Frames;
 use web_sockets::{Awaited, Came, Ends};
 
@@ -134,17 +134,14 @@ impl<E: Ends> Talk<E> {
         ticks: &mut T,
         desk: &mut D,
     )
-        requires goes { self.old.stage ≡ stages.Goes }
-        ensures went { Went (AtTick T.reads D.serves) self.new.coming self.new.stage
-            (cursor self.old.left (T.told ticks.old) desk.old (Some page.old.inner.items))
-            (cursor self.new.left (T.told ticks.new) desk.new (Some page.new.inner.items)) }
-        ensures coming { self.new.coming ≡ self.old.coming }
-        ensures gone { self.new.gone ≡ self.old.gone }
-        ensures takes { self.new.stage ≡ stages.Goes → length self.new.left < length self.old.left }
+        requires { self.old.stage ≡ stages.Goes }
+        ensures { Replies (AtTick T.reads D.serves)
+            (between (T.told ticks.old) desk.old) (between (T.told ticks.new) desk.new)
+            page.old.inner.items page.new.inner.items self.old self.new }
     {
         match step(alloc, &mut self.frames, ticks, desk, page) {
             Ok(Step::Waits) => self.stage = Stage::Waits,
-            Ok(Step::Goes) => {}
+            Ok(Step::Goes) => self.stage = Stage::Goes,
             Ok(Step::Ends) => self.stage = Stage::Ends,
             Err(_) => self.stage = Stage::Lost,
         }
@@ -158,13 +155,10 @@ impl<E: Ends> Talk<E> {
         ticks: &mut T,
         desk: &mut D,
     )
-        requires goes { self.old.stage ≡ stages.Goes }
-        ensures went { Went (AtTick T.reads D.serves) self.new.coming self.new.stage
-            (cursor self.old.left (T.told ticks.old) desk.old (Some []))
-            (cursor self.new.left (T.told ticks.new) desk.new (Some self.new.unsent)) }
-        ensures coming { self.new.coming ≡ self.old.coming }
-        ensures gone { self.new.gone ≡ self.old.gone }
-        ensures takes { self.new.stage ≡ stages.Goes → length self.new.left < length self.old.left }
+        requires { self.old.stage ≡ stages.Goes }
+        ensures { Replies (AtTick T.reads D.serves)
+            (between (T.told ticks.old) desk.old) (between (T.told ticks.new) desk.new)
+            [] self.new.unsent self.old self.new }
     {
         page.inner.clear();
         self.take_step(alloc, page, ticks, desk);
@@ -173,14 +167,13 @@ impl<E: Ends> Talk<E> {
     }
 
     // Reads once where it waits for bytes.
-    fn hear_on(&mut self, piece: &mut [u8])
-        requires { IsPiece piece.old }
+    fn hear_on(&mut self, piece: &mut Piece)
         ensures moves { Moves self.old self.new }
         ensures unsent { self.new.unsent ≡ self.old.unsent }
         ensures same { self.old.stage ≡ stages.Goes → self.new ≡ self.old }
     {
         match self.stage {
-            Stage::Waits => self.hear(piece),
+            Stage::Waits => self.hear(&mut piece.bytes),
             _ => {}
         }
     }
@@ -209,12 +202,11 @@ impl<E: Ends> Talk<E> {
     fn go_on<L: Ledger, M: Ledger, T: Ticks, D: Desk>(
         &mut self,
         alloc: Global,
-        piece: &mut [u8],
+        piece: &mut Piece,
         page: &mut Device<Vec<u8>, L, M>,
         ticks: &mut T,
         desk: &mut D,
     ) -> Result<(), Refused>
-        requires { IsPiece piece.old }
         ensures turn { Turn (AtTick T.reads D.serves)
             (between (T.told ticks.old) desk.old) (between (T.told ticks.new) desk.new)
             self.old self.new }
@@ -255,17 +247,15 @@ impl<E: Ends> Talk<E> {
     pub fn turn<L: Ledger, M: Ledger, T: Ticks, D: Desk>(
         &mut self,
         alloc: Global,
-        piece: &mut [u8],
+        piece: &mut Piece,
         page: &mut Device<Vec<u8>, L, M>,
         ticks: &mut T,
         desk: &mut D,
     ) -> Result<(), Refused>
-        requires { IsPiece piece.old }
         ensures turn { Turn (AtTick T.reads D.serves)
             (between (T.told ticks.old) desk.old) (between (T.told ticks.new) desk.new)
             self.old self.new }
         ensures takes { Takes self.old self.new }
-        ensures piece { length piece.new ≡ length piece.old }
     {
         match self.go_on(alloc, piece, page, ticks, desk) {
             Ok(()) => {

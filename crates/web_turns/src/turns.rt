@@ -1,7 +1,6 @@
 //! What happens in a hall, one after another.
 
-ghost use Rattle.std.specs.Prelude.{◌≡◌, length};
-ghost use Rattle.web_connection.specs.Run.{AtTick, IsPiece};
+ghost use Rattle.web_connection.specs.Run.{AtTick};
 ghost use Rattle.web_turns.specs.Acts.{between};
 ghost use Rattle.web_turns.specs.Halls.{Does, DoesAll, LetsIn};
 
@@ -9,7 +8,7 @@ use crate::hall::Hall;
 use base_devices::{Device, Ticks};
 use std::alloc::Global;
 use std::sync::ledger::Ledger;
-use web_connection::Desk;
+use web_connection::{Desk, Piece};
 use web_sockets::Ends;
 
 /// What happens next in a hall.
@@ -39,7 +38,7 @@ fn come_in<E: Ends>(alloc: Global, hall: &mut Hall<E>, comers: &mut Vec<E>)
 // What is next.
 fn do_next<E: Ends, L: Ledger, M: Ledger, T: Ticks, D: Desk>(
     alloc: Global,
-    piece: &mut [u8],
+    piece: &mut Piece,
     page: &mut Device<Vec<u8>, L, M>,
     hall: &mut Hall<E>,
     comers: &mut Vec<E>,
@@ -47,11 +46,9 @@ fn do_next<E: Ends, L: Ledger, M: Ledger, T: Ticks, D: Desk>(
     ticks: &mut T,
     desk: &mut D,
 )
-    requires { IsPiece piece.old }
     ensures does { Does (AtTick T.reads D.serves)
         (between (T.told ticks.old) desk.old) (between (T.told ticks.new) desk.new)
         hall.old hall.new next }
-    ensures piece { length piece.new ≡ length piece.old }
 {
     match next {
         Next::Comes => come_in(alloc, hall, comers),
@@ -68,7 +65,7 @@ fn do_next<E: Ends, L: Ledger, M: Ledger, T: Ticks, D: Desk>(
 /// where there is no memory for one more.
 pub fn serve_turns<E: Ends, L: Ledger, M: Ledger, T: Ticks, D: Desk>(
     alloc: Global,
-    piece: &mut [u8],
+    piece: &mut Piece,
     page: &mut Device<Vec<u8>, L, M>,
     hall: &mut Hall<E>,
     comers: &mut Vec<E>,
@@ -76,7 +73,6 @@ pub fn serve_turns<E: Ends, L: Ledger, M: Ledger, T: Ticks, D: Desk>(
     ticks: &mut T,
     desk: &mut D,
 )
-    requires { IsPiece piece.old }
     ensures { DoesAll (AtTick T.reads D.serves)
         (between (T.told ticks.old) desk.old) (between (T.told ticks.new) desk.new)
         hall.old hall.new order.now }

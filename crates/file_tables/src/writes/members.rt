@@ -2,14 +2,15 @@
 
 ghost use Rattle.std.specs.Prelude.{◌≡◌, ◌+◌, ◌==◌, length, map, filter, bytes_eq, IfOk, OnOk};
 ghost use Rattle.file_schema.specs.Inside.{StaysInside};
+ghost use Rattle.model_rows.specs.declared.changes.Change.TheVariants.{PutQuota, PutCheckinList};
 ghost use Rattle.base_sorted.specs.Rising.{rising};
 ghost use Rattle.file_rows.specs.Changes.{Changes, ChangesFit};
 ghost use Rattle.file_rows.specs.Tables.{Tables, Holds};
 ghost use Rattle.file_rows.specs.Written.{WhileInside, WritesInside, NumbersInside};
 ghost use Rattle.file_writes.specs.Removed.{AreApart};
-ghost use Rattle.file_meaning.specs.Free.{IsFree};
 ghost use Rattle.file_meaning.specs.Links.{are_just};
-ghost use Rattle.file_meaning.specs.Made.{put_links, put_release, put_quota, put_list};
+ghost use Rattle.file_meaning.specs.Made.{put_links, put_release};
+ghost use Rattle.file_tables.specs.Numbered.{WritesChange};
 ghost use Rattle.file_tables.specs.Steps.{made_each};
 
 use base_sorted::Ids;
@@ -30,7 +31,7 @@ fn add_member<S: Alter, T: RemoveByOwner>(
     member: u64,
 ) -> Result<u64, RowError>
     ensures { NumbersInside S.Store tx.old tx.new
-        (Changes (T.Stored.with_row (T.Member.row_of number owner member))) (number + 1) result }
+        (Changes (T.with_row (T.row_of number owner member))) (number + 1) result }
 {
     let Some(following) = number.checked_add(1) else {
         return Err(RowError::Store);
@@ -47,9 +48,9 @@ fn add_members<S: Alter, T: RemoveByOwner>(
     from: u64,
     members: &[u64],
 ) -> Result<u64, RowError>
-    ensures { NumbersInside S.Store tx.old tx.new
-        (Changes (made_each (λ id n. T.Stored.with_row (T.Member.row_of n owner id))
-        (λ _ n. n + 1) members.now from)) (from + length members.now) result }
+    ensures { NumbersInside S.Store tx.old tx.new (Changes
+        (made_each (λ id n. T.with_row (T.row_of n owner id)) (λ _ n. n + 1) members.now from))
+        (from + length members.now) result }
 {
     let mut free = from;
     'members: for member in members {
@@ -149,9 +150,7 @@ pub(crate) fn write_quota<S: Alter>(
     row: &Quota,
     from: u64,
 ) -> Result<u64, RowError>
-    ensures { NumbersInside S.Store tx.old tx.new
-        (ChangesFit (IsFree from) (put_quota row.now from))
-        (from + length row.now.items + length row.now.variations) result }
+    ensures { WritesChange S.Store tx.old tx.new (PutQuota row.now) from result }
 {
     file_writes::put(tx, row)?;
     write_release(tx, row)?;
@@ -165,9 +164,7 @@ pub(crate) fn write_list<S: Alter>(
     row: &CheckinList,
     from: u64,
 ) -> Result<u64, RowError>
-    ensures { NumbersInside S.Store tx.old tx.new
-        (ChangesFit (IsFree from) (put_list row.now from))
-        (from + length row.now.limit_products) result }
+    ensures { WritesChange S.Store tx.old tx.new (PutCheckinList row.now) from result }
 {
     file_writes::put(tx, row)?;
     remove_members::<S, ListItem>(tx, row.id)?;

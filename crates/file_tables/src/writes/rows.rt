@@ -1,11 +1,11 @@
 //! Rows with an id of their own: no row number is used.
 
-ghost use Rattle.std.specs.Prelude.{◌++◌, if◌then◌else◌, map};
-ghost use Rattle.file_rows.specs.Changes.{Changes, ChangesFit, without_discount};
-ghost use Rattle.file_rows.specs.Written.{WritesInside, NumbersInside};
-ghost use Rattle.file_meaning.specs.Free.{IsFree};
-ghost use Rattle.file_meaning.specs.Made.{put_budget, put_voucher, drop_voucher, put_position};
-ghost use Rattle.file_meaning.specs.Rows.{discounts_of};
+ghost use Rattle.std.specs.Prelude.{false, if◌then◌else◌};
+ghost use Rattle.model_rows.specs.declared.changes.Change.TheVariants.{PutVoucher, DropVoucher, PutPosition};
+ghost use Rattle.file_rows.specs.Changes.{Changes, without_discount};
+ghost use Rattle.file_rows.specs.Written.{WritesInside};
+ghost use Rattle.file_meaning.specs.Made.{put_budget, put_discount};
+ghost use Rattle.file_tables.specs.Numbered.{NumbersOn, WritesChange};
 
 use file_rows::{BudgetRow, DiscountRow, SpentRow};
 use file_schema::RowError;
@@ -19,9 +19,8 @@ pub(crate) fn put_row<S: Alter, T: Stored>(
     row: &T,
     from: u64,
 ) -> Result<u64, RowError>
-    ensures { NumbersInside S.Store tx.old tx.new
-        (ChangesFit (IsFree from) (λ t. T.Stored.with_row row.now
-        (T.Stored.without_row (T.Stored.key row.now) t))) from result }
+    ensures { NumbersOn S.Store tx.old tx.new from
+        (λ t. T.with_row row.now (T.without_row (T.key row.now) t)) from result }
 {
     file_writes::put(tx, row)?;
     Ok(from)
@@ -33,8 +32,7 @@ pub(crate) fn drop_row<S: Alter, T: Stored>(
     id: u64,
     from: u64,
 ) -> Result<u64, RowError>
-    ensures { NumbersInside S.Store tx.old tx.new
-        (ChangesFit (IsFree from) (T.Stored.without_row id)) from result }
+    ensures { NumbersOn S.Store tx.old tx.new from (T.without_row id) from result }
 {
     T::remove(tx, id)?;
     Ok(from)
@@ -62,8 +60,7 @@ pub(crate) fn put_voucher_row<S: Alter>(
     row: &Voucher,
     from: u64,
 ) -> Result<u64, RowError>
-    ensures { NumbersInside S.Store tx.old tx.new
-        (ChangesFit (IsFree from) (λ t. put_budget row.now (put_voucher row.now t))) from result }
+    ensures { WritesChange S.Store tx.old tx.new (PutVoucher row.now) from result }
 {
     file_writes::put_voucher(tx, row)?;
     write_budget(tx, row)?;
@@ -76,8 +73,7 @@ pub(crate) fn drop_voucher<S: Alter>(
     id: u64,
     from: u64,
 ) -> Result<u64, RowError>
-    ensures { NumbersInside S.Store tx.old tx.new
-        (ChangesFit (IsFree from) (drop_voucher id)) from result }
+    ensures { WritesChange S.Store tx.old tx.new (DropVoucher id) from result }
 {
     BudgetRow::remove(tx, id)?;
     SpentRow::remove(tx, id)?;
@@ -102,12 +98,7 @@ fn drop_discount<S: Alter>(
 
 // Adds the row of what was taken off the position's price, if anything was.
 fn add_discount<S: Alter>(tx: &mut Transaction<'_, S>, row: &OrderPos) -> Result<(), RowError>
-    ensures { WritesInside S.Store tx.old tx.new
-        (Changes (λ t. record t {
-          discounts =
-              map (λ n. record { position_id = row.now.id; discount = n }) (discounts_of row.now)
-              ++ t.discounts;
-        })) result }
+    ensures { WritesInside S.Store tx.old tx.new (Changes (put_discount false row.now)) result }
 {
     if row.discount.get() == 0 {
         return Ok(());
@@ -126,8 +117,7 @@ pub(crate) fn put_position_row<S: Alter>(
     row: &OrderPos,
     from: u64,
 ) -> Result<u64, RowError>
-    ensures { NumbersInside S.Store tx.old tx.new
-        (ChangesFit (IsFree from) (put_position row.now)) from result }
+    ensures { WritesChange S.Store tx.old tx.new (PutPosition row.now) from result }
 {
     let stood = file_writes::put_position(tx, row)?;
     drop_discount(tx, row.id, stood)?;

@@ -2,10 +2,8 @@
 
 ghost use Rattle.std.specs.Prelude.{◌+◌};
 ghost use Rattle.model_answers.specs.ShopView.{listed};
-ghost use Rattle.file_rows.specs.Changes.{ChangesFit};
-ghost use Rattle.file_rows.specs.Written.{NumbersInside};
-ghost use Rattle.file_meaning.specs.Free.{IsFree};
 ghost use Rattle.file_meaning.specs.Made.{done, next_after};
+ghost use Rattle.file_tables.specs.Numbered.{NumbersOn};
 
 use crate::writes::answers::write_answer;
 use crate::writes::counts::write_counts;
@@ -31,9 +29,8 @@ pub fn write_all<S: Alter>(
     kept: Option<&Kept>,
     at: Moment,
 ) -> Result<u64, RowError>
-    ensures { NumbersInside S.Store tx.old tx.new
-        (ChangesFit (IsFree from)
-        (done shop.now changes.now counts.now from (listed kept.entry) at))
+    ensures { NumbersOn S.Store tx.old tx.new from
+        (done shop.now changes.now counts.now from (listed kept.entry) at)
         (next_after changes.now from + 1) result }
 {
     file_writes::put(tx, shop)?;

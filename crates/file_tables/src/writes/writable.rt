@@ -2,9 +2,8 @@
 
 ghost use Rattle.std.specs.Prelude.{ℕ};
 ghost use Rattle.file_rows.specs.Tables.{Tables};
-ghost use Rattle.file_rows.specs.Changes.{ChangesFit};
-ghost use Rattle.file_rows.specs.Written.{NumbersInside};
 ghost use Rattle.file_meaning.specs.Free.{IsFree};
+ghost use Rattle.file_tables.specs.Numbered.{NumbersOn};
 ghost use Rattle.file_tables.specs.Steps.{made_each, next_each};
 
 use file_schema::RowError;
@@ -27,8 +26,8 @@ pub trait Writable {
         tx: &mut Transaction<'_, S>,
         from: u64,
     ) -> Result<u64, RowError>
-        ensures { NumbersInside S.Store tx.old tx.new
-            (ChangesFit (IsFree from) (made self.now from)) (next self.now from) result };
+        ensures { NumbersOn S.Store tx.old tx.new from
+            (made self.now from) (next self.now from) result };
 
     ghost stays_free: { (x : Self) (from : ℕ) (t : Tables) → IsFree from t → IsFree (next x from) (made x from t) };
 }
@@ -40,9 +39,8 @@ pub(crate) fn write_each<S: Alter, T: Writable>(
     things: &[T],
     from: u64,
 ) -> Result<u64, RowError>
-    ensures { NumbersInside S.Store tx.old tx.new
-        (ChangesFit (IsFree from) (made_each T.Writable.made T.Writable.next things.now from))
-        (next_each T.Writable.next things.now from) result }
+    ensures { NumbersOn S.Store tx.old tx.new from
+        (made_each T.made T.next things.now from) (next_each T.next things.now from) result }
 {
     let mut free = from;
     'things: for thing in things {

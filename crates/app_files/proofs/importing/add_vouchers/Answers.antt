@@ -1,10 +1,9 @@
 use Rattle.std.proofs.Common.{ap, ◌∙◌}
 use Rattle.app_csv.specs.VerdictLines.{codes_of}
-use Rattle.web_handler.specs.Streams.{desk_with}
+use Rattle.app_files.specs.Served.{desk_of}
 use Rattle.app_files.proofs.ImportLemmas.{adds_all}
 use Rattle.app_files.proofs.importing.add_vouchers.Goals as goal
 
 pub returns-in-Ok : goal.returns-in-Ok
 returns-in-Ok g c =
-    let office = c.args.opened.1 in
-    adds_all _ _ c.args.vouchers c.in-Ok.codes (desk_with c.args.opened.0 office.organizer office.event office.state) _ _ (c.in-Ok.ensures ∙ ap codes_of c.as_slice.ensures) c.act_opened.ensures
+    adds_all _ _ c.args.vouchers c.in-Ok.codes (desk_of c.args.opened) _ _ (c.in-Ok.ensures ∙ ap codes_of c.as_slice.ensures) c.act_opened.ensures

@@ -13,8 +13,8 @@ told_as report one version lists outcome came is same told =
 
 pub returns-clause-told : goal.returns-clause-told
 returns-clause-told g c =
-    let version = c.args.opened.0.head.version in
-    let lists = c.args.opened.1.state.lists in
+    let version = c.args.opened.tables.head.version in
+    let lists = c.args.opened.office.state.lists in
     elim c.match-report.branch [
       | in-Sales w ↦ told_as c.args.report _ version lists c.match-report.outcome _ w.in-Sales.is w.outcome-is (w.sales_of-outcome.ensures version)
       | in-Door w ↦ told_as c.args.report _ version lists c.match-report.outcome _ w.in-Door.is w.outcome-is (w.door_of-outcome.ensures version)

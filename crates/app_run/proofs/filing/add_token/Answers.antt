@@ -1,6 +1,6 @@
 use Rattle.std.proofs.Common.{◌≡◌, ◌∙◌, ◌++◌, ◌∷◌, [], List, ℕ, ap, codes, rules, true, Ok}
 use Rattle.std.specs.Fmt.{decimal}
-use Rattle.web_http.specs.Written.{Page}
+use Rattle.web_http.specs.Written.{Page, writer_page}
 use Rattle.web_http.proofs.WriteLemmas.{writes_as}
 use Rattle.web_cli.specs.Values.{is_token}
 use Rattle.app_run.proofs.SayLemmas.{adds_there}
@@ -8,8 +8,8 @@ use Rattle.app_run.proofs.filing.add_token.Goals as goal
 
 pub returns-in-Ok : goal.returns-in-Ok
 returns-in-Ok g c =
-    let old : Page = record { taken = g.W.Drain.taken c.args.writer.now; failures = g.W.Drain.failures c.args.writer.now } in
-    let new : Page = record { taken = g.W.Drain.taken c.say.new.writer; failures = g.W.Drain.failures c.say.new.writer } in
+    let old : Page = writer_page g.W.Drain c.args.writer.now in
+    let new : Page = writer_page g.W.Drain c.say.new.writer in
     let well : is_token c.args.token.now ≡ true = search rules in
     let digits : c.as_bytes.result.now ≡ decimal c.in-Ok.number = c.as_bytes.ensures.value ∙ c.format.ensures.text in
     let written = writes_as c.say.result old new _ _ (ap (λ (d : List ℕ). codes "token " ++ (d ++ 10 ∷ [])) digits) c.say.ensures in

@@ -1,12 +1,12 @@
 use Rattle.std.proofs.Common.{◌≡◌, ◌&&◌, rules, true, Ok}
 use Rattle.base_values.specs.Slugs.{is_slug}
-use Rattle.web_http.specs.Written.{Page}
+use Rattle.web_http.specs.Written.{Page, writer_page}
 use Rattle.app_run.proofs.SayLemmas.{makes_there}
 use Rattle.app_run.proofs.filing.make_shop.Goals as goal
 
 pub returns-in-Ok : goal.returns-in-Ok
 returns-in-Ok g c =
-    let old : Page = record { taken = g.W.Drain.taken c.args.writer.now; failures = g.W.Drain.failures c.args.writer.now } in
-    let new : Page = record { taken = g.W.Drain.taken c.say.new.writer; failures = g.W.Drain.failures c.say.new.writer } in
+    let old : Page = writer_page g.W.Drain c.args.writer.now in
+    let new : Page = writer_page g.W.Drain c.say.new.writer in
     let well : (is_slug c.args.organizer.now && is_slug c.args.event.now) ≡ true = search rules in
     makes_there g.F.HouseFiles.made _ _ _ _ old new (Ok c.in-Ok.field-0) c.said.result well c.in-Ok.ensures (c.say.result, c.say.ensures, c.said.ensures)

@@ -37,3 +37,6 @@ returns-clause-held c =
     c.loop-place.invariant.done
     ∙ same_map (λ v. turn_each false (map f (take c.loop-place.place es)) s v.id) (λ v. held c.args.at v.id lists) lists.vouchers
     (λ v. ap (λ (g : ℕ → ℕ). g v.id) (all_taken false s f es c.loop-place.place le) ∙ held_ended lists from c.args.at v.id c.requires.moment es finds)
+
+pub returns-clause-stays : goal.returns-clause-stays
+returns-clause-stays c = record { room = c.loop-place.invariant.room; same = c.loop-place.invariant.whole }

@@ -25,3 +25,6 @@ pub returns-clause-items : goal.returns-clause-items
 returns-clause-items g c =
     let le = rw c.len-place-end.ensures at c.loop-place-test.false in
     c.loop-place.invariant.done ∙ each_taken (g.S.Shift.shift c.args.shift.now) c.args.quotas.now c.args.usages.now.items c.args.ids.now (take c.loop-place.place c.args.ids.now) (take_all c.loop-place.place c.args.ids.now le)
+
+pub returns-clause-stays : goal.returns-clause-stays
+returns-clause-stays g c = record { room = c.loop-place.invariant.room; same = c.loop-place.invariant.same ∙ sym c.requires.same }

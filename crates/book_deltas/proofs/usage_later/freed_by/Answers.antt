@@ -27,7 +27,9 @@ loop-place-preserved g c =
     let ids = c.naming-carts.result.ids in
     let lt = rw c.len-place-end.ensures at c.loop-place-test.true in
     record {
-      counted = one_found (λ i. cart_at i lists) (one_if (λ (d : CartPos). is_live_cart c.args.at d && is_in c.args.quota.now d.product)) ids c.loop-place.place _ c.loop-place.count c.hold_if-count.result lt (λ d. c.at-cart.ensures.row d ∙ ap (λ (rows : List CartPos). row_at (λ r. r.id) (get_or ids c.loop-place.place d) rows) c.naming-carts.ensures.rows) c.loop-place.invariant.counted c.hold_if-count.ensures.value;
+      counted = one_found (λ i. cart_at i lists) (one_if (λ (d : CartPos). is_live_cart c.args.at d && is_in c.args.quota.now d.product)) ids c.loop-place.place _ c.loop-place.count
+          c.hold_if-count.result lt (λ d. c.at-cart.ensures.row d ∙ ap (λ (rows : List CartPos). row_at (λ r. r.id) (get_or ids c.loop-place.place d) rows) c.naming-carts.ensures.rows)
+          c.loop-place.invariant.counted c.hold_if-count.ensures.value;
       small = omega (arith, c.loop-place.invariant.small, c.hold_if-count.ensures.small);
       ticked = omega (arith, c.loop-place.invariant.ticked, c.at-cart.ensures.cost);
     }

@@ -15,8 +15,12 @@ loop-row-preserved c =
       same = c.add_cart.ensures.same ∙ c.loop-row.invariant.same;
     }
 
-pub returns-clause-items : goal.returns-clause-items
-returns-clause-items c =
+pub returns : goal.returns
+returns c =
     let lists = c.args.store.now.state.lists in
-    sym (each_none (cart_comes lists c.args.at) lists.catalogue.quotas c.loop-row.usages.items (c.loop-row.invariant.same ∙ c.requires))
-    ∙ ap (λ (l : List CartPos). map_beside (after_each (cart_comes lists c.args.at) l) lists.catalogue.quotas c.loop-row.usages.items) (sym c.in-None.ensures.steps.0) ∙ c.loop-row.invariant.items
+    record {
+      items =
+          sym (each_none (cart_comes lists c.args.at) lists.catalogue.quotas c.loop-row.usages.items (c.loop-row.invariant.same ∙ c.requires))
+          ∙ ap (λ (l : List CartPos). map_beside (after_each (cart_comes lists c.args.at) l) lists.catalogue.quotas c.loop-row.usages.items) (sym c.in-None.ensures.steps.0) ∙ c.loop-row.invariant.items;
+      same = c.loop-row.invariant.same;
+    }

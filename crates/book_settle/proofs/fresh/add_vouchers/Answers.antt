@@ -11,7 +11,10 @@ loop-row-preserved c =
       same = c.add_voucher.ensures.same ∙ c.loop-row.invariant.same;
     }
 
-pub returns-clause-items : goal.returns-clause-items
-returns-clause-items c =
+pub returns : goal.returns
+returns c =
     let lists = c.args.store.now.state.lists in
-    sym (rest_none (voucher_comes lists c.args.at) lists.catalogue.quotas c.args.rows.now c.loop-row.row-index c.loop-row.usages.items (omega (arith, c.loop-row-test.false)) (c.loop-row.invariant.same ∙ c.requires.same)) ∙ c.loop-row.invariant.items
+    record {
+      items = sym (rest_none (voucher_comes lists c.args.at) lists.catalogue.quotas c.args.rows.now c.loop-row.row-index c.loop-row.usages.items (omega (arith, c.loop-row-test.false)) (c.loop-row.invariant.same ∙ c.requires.same)) ∙ c.loop-row.invariant.items;
+      same = c.loop-row.invariant.same;
+    }

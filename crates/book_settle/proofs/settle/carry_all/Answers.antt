@@ -20,11 +20,11 @@ loop-change-init c =
       rest = ap (λ (l : List Change). after_all l c.args.store.now.state.lists) list;
       next = refl;
       moment = refl;
-      room = omega (arith, c.requires.room, ap weight list);
-      usages_room = omega (arith, c.requires.usages_room, ap weight list);
-      redeems_room = omega (arith, c.requires.redeems_room, ap weight list);
-      spents_room = omega (arith, c.requires.spents_room, ap weight list);
-      holds_room = omega (arith, c.requires.holds_room, ap weight list);
+      room = omega (arith, c.requires.fits.rows, ap weight list);
+      usages_room = omega (arith, c.requires.fits.usages, ap weight list);
+      redeems_room = omega (arith, c.requires.fits.redeems, ap weight list);
+      spents_room = omega (arith, c.requires.fits.spents, ap weight list);
+      holds_room = omega (arith, c.requires.fits.holds, ap weight list);
       stay = λ id none. none;
       new = subst (λ (l : List Change). ArePutsNew (redeemed_at c.args.store.now.state) l c.args.store.now.state.lists) (sym list) c.requires.new;
       unspent = subst (λ (l : List Change). ArePutsNew (spent_at c.args.store.now.state) l c.args.store.now.state.lists) (sym list) c.requires.unspent;
@@ -63,4 +63,15 @@ loop-change-preserved c =
       spents = c.carry.ensures.spents (spent_at old) (first_new (spent_at old) c.in-Some.change (reverse c.pop.new.self.items) c.loop-change.store.state.lists unspent) c.loop-change.invariant.spents ∙ ap (λ (s : State). map (λ (v : Voucher). spent_at old v.id) s.lists.vouchers) (sym c.carry.ensures.state);
       small = subst (λ (s : State). AreSmall s.lists) (sym c.carry.ensures.state) c.carry.ensures.small;
       held = subst (λ (s : State). AreHeld s.lists s.moment c.carry.new.holds.items) (sym c.carry.ensures.state) c.carry.ensures.held;
+    }
+
+pub carry-requires-clause-fits : goal.carry-requires-clause-fits
+carry-requires-clause-fits c =
+    let list : reverse c.loop-change.list.items ≡ c.in-Some.change ∷ reverse c.pop.new.self.items = taken c.loop-change.list.items c.pop.new.self.items c.in-Some.change c.in-Some.ensures.items in
+    record {
+      rows = omega (arith, c.loop-change.invariant.room, ap weight list);
+      usages = omega (arith, c.loop-change.invariant.usages_room, ap weight list);
+      redeems = omega (arith, c.loop-change.invariant.redeems_room, ap weight list);
+      spents = omega (arith, c.loop-change.invariant.spents_room, ap weight list);
+      holds = omega (arith, c.loop-change.invariant.holds_room, ap weight list);
     }

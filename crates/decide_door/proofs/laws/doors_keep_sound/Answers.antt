@@ -6,4 +6,4 @@ pub returns-clause-added : goal.returns-clause-added
 returns-clause-added c = added_sound
 
 pub returns-clause-scanned : goal.returns-clause-scanned
-returns-clause-scanned c = admitted_sound
+returns-clause-scanned c = λ s fit sound. admitted_sound s.list s.ticket s.scan s.before s.after s.position fit sound s.passed

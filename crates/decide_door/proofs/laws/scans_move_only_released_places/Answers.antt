@@ -6,13 +6,13 @@ pub returns-clause-added : goal.returns-clause-added
 returns-clause-added c = added_used
 
 pub returns-clause-kept : goal.returns-clause-kept
-returns-clause-kept c = λ list ticket scan before after position quota sound h. kept_used list ticket scan before after position sound h quota
+returns-clause-kept c = λ s quota sound. kept_used s.list s.ticket s.scan s.before s.after s.position sound s.passed quota
 
 pub returns-clause-exits : goal.returns-clause-exits
-returns-clause-exits c = λ list ticket scan before after position quota sound h. exit_used list ticket scan before after position sound h quota
+returns-clause-exits c = λ s quota sound. exit_used s.list s.ticket s.scan s.before s.after s.position sound s.passed quota
 
 pub returns-clause-entries : goal.returns-clause-entries
-returns-clause-entries c = λ list ticket scan before after position quota sound h entry. entry_used list ticket scan before after position sound h quota
+returns-clause-entries c = λ s quota sound entry. entry_used s.list s.ticket s.scan s.before s.after s.position sound s.passed quota
 
 pub returns-clause-inside : goal.returns-clause-inside
-returns-clause-inside c = λ list ticket scan before after position quota sound h. inside_used list ticket scan before after position sound h quota
+returns-clause-inside c = λ s quota sound. inside_used s.list s.ticket s.scan s.before s.after s.position sound s.passed quota

@@ -1,6 +1,7 @@
 use Rattle.std.proofs.Common.{◌≡◌, ◌++◌, drop}
 use Rattle.draft_changes.specs.DraftState.{now, Extends}
-use Rattle.decide_orders.specs.Bulk.{all_added, after_outcomes, bulk_changes}
+use Rattle.decide_orders.specs.Bulk.{all_added, bulk_changes}
+use Rattle.decide_orders.specs.Steps.{after_outcomes}
 use Rattle.decide_orders.proofs.bulk.add_all.Given as goal
 
 -- the outcomes so far and those of what is left

@@ -1,6 +1,6 @@
 use Rattle.std.proofs.Common.{sym, subst, ℕ}
 use Rattle.draft_changes.specs.DraftState.{now}
-use Rattle.decide_orders.specs.Created.{IsReady}
+use Rattle.decide_orders.specs.Steps.{IsReady}
 use Rattle.decide_orders.proofs.Rows.{ready_order}
 use Rattle.decide_orders.proofs.creating.put_all.Goals as goal
 

@@ -4,7 +4,8 @@ use Rattle.model_rows.specs.declared.changes.Change.TheVariants.{PutPosition}
 use Rattle.model_rows.specs.declared.rows.OrderPos.{OrderPos}
 use Rattle.draft_changes.specs.DraftState.{now}
 use Rattle.draft_changes.proofs.Extensions.{extends_both}
-use Rattle.decide_orders.specs.Created.{IsReady, AreCounted, with_positions, position_put}
+use Rattle.decide_orders.specs.Created.{with_positions, position_put}
+use Rattle.decide_orders.specs.Steps.{IsReady, AreCounted}
 use Rattle.decide_orders.proofs.Logs.{one_more}
 use Rattle.decide_orders.proofs.Rows.{ready_next, counted_more}
 use Rattle.decide_orders.proofs.creating.put_positions.Goals as goal

@@ -1,7 +1,8 @@
 use Rattle.std.proofs.Common.{◌≡◌, ◌+◌, ◌++◌, drop, map, Ok}
 use Rattle.model_rows.specs.declared.changes.Change.TheVariants.{PutPosition}
 use Rattle.draft_changes.specs.DraftState.{now, Extends}
-use Rattle.decide_orders.specs.Created.{with_positions, IsReady, AreCounted}
+use Rattle.decide_orders.specs.Created.{with_positions}
+use Rattle.decide_orders.specs.Steps.{IsReady, AreCounted}
 use Rattle.decide_orders.proofs.creating.put_positions.Given as goal
 
 abbrev pub invariant-loop-row : goal.invariant-loop-row

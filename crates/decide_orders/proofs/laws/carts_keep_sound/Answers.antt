@@ -8,7 +8,7 @@ use Rattle.decide_orders.proofs.Dropped.{dropped_sound}
 use Rattle.decide_orders.proofs.laws.carts_keep_sound.Goals as goal
 
 pub returns-clause-added : goal.returns-clause-added
-returns-clause-added c = λ new draw before after row fit sixteen sound h. added_sound new draw before after row fit sixteen sound h
+returns-clause-added c = λ added fit sixteen sound. added_sound added.request added.draw added.before added.after added.row fit sixteen sound added.done
 
 pub returns-clause-many : goal.returns-clause-many
 returns-clause-many c = λ entries draw before after outcomes fit sixteen sound h. subst (λ (m : State × List Outcome). IsSound m.0) (many_is entries draw before (after, outcomes) h) (all_sound entries draw before fit sixteen sound)

@@ -6,4 +6,4 @@ pub returns-clause-unrefused : goal.returns-clause-unrefused
 returns-clause-unrefused c = no_cart_is_over
 
 pub returns-clause-spent : goal.returns-clause-spent
-returns-clause-spent c = λ new draw before after row voucher h. added_spends new draw before after row voucher h
+returns-clause-spent c = λ added voucher. added_spends added.request added.draw added.before added.after added.row voucher added.done

@@ -13,7 +13,7 @@ use Rattle.decide_orders.proofs.moves.revive.Goals as goal
 pub put_order-requires : goal.put_order-requires
 put_order-requires g c =
     let state = now c.args.draft.now in
-    headroom_revived_order c.args.row state.lists state.moment c.requires.sound.ids.vouchers.in_order (sym c.have_uses_again.ensures ∙ c.if-not-have_uses_again.false) c.requires.sound.headroom
+    headroom_revived_order c.args.row state.lists state.moment c.requires.fresh.sound.ids.vouchers.in_order (sym c.have_uses_again.ensures ∙ c.if-not-have_uses_again.false) c.requires.fresh.sound.headroom
 
 pub returns : goal.returns
 returns g c =

@@ -7,4 +7,4 @@ use Rattle.decide_orders.proofs.moves.uses_again.Goals as goal
 pub returns : goal.returns
 returns g c =
     let named = c.named_by.ensures ∙ ap (λ ps. count_by (λ p. names c.args.voucher p.voucher) ps) c.requires.positions in
-    omega (arith, uses_more c.args.row.now (now c.args.draft.now).lists c.args.draft.now.moment c.args.voucher c.requires.ended c.requires.back, named, c.uses.ensures.value)
+    omega (arith, uses_more c.args.row.now (now c.args.draft.now).lists c.args.draft.now.moment c.args.voucher c.requires.again.ended c.requires.again.back, named, c.uses.ensures.value)

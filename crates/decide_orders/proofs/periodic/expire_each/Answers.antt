@@ -3,7 +3,7 @@ use Rattle.std.proofs.lemmas.List.{drop_more}
 use Rattle.draft_changes.specs.DraftState.{now}
 use Rattle.draft_changes.proofs.Extensions.{extends_both}
 use Rattle.model_rows.specs.Lists.{order_at}
-use Rattle.decide_orders.specs.Expired.{expired_in, each_expired, expiry_of, each_expiry}
+use Rattle.decide_orders.specs.Steps.{expired_in, each_expired, expiry_of, each_expiry}
 use Rattle.decide_orders.proofs.periodic.expire_each.Goals as goal
 
 pub loop-id-preserved : goal.loop-id-preserved

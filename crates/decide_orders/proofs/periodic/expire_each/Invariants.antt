@@ -1,6 +1,6 @@
 use Rattle.std.proofs.Common.{◌≡◌, ◌++◌, drop}
 use Rattle.draft_changes.specs.DraftState.{now, Extends}
-use Rattle.decide_orders.specs.Expired.{each_expired, each_expiry}
+use Rattle.decide_orders.specs.Steps.{each_expired, each_expiry}
 use Rattle.decide_orders.proofs.periodic.expire_each.Given as goal
 
 -- what was done, and what is left to be done

@@ -1,6 +1,7 @@
 use Rattle.std.proofs.Common.{◌≡◌, ◌++◌, drop}
 use Rattle.draft_changes.specs.DraftState.{now, Extends}
-use Rattle.decide_vouchers.specs.Imported.{rows_imported, after_verdicts, import_changes}
+use Rattle.decide_vouchers.specs.Imported.{rows_imported, import_changes}
+use Rattle.decide_vouchers.specs.Steps.{after_verdicts}
 use Rattle.decide_vouchers.proofs.importing.import_rows.Given as goal
 
 -- the verdicts so far and those on what is left

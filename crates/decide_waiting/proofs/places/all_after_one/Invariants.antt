@@ -1,5 +1,5 @@
 use Rattle.std.proofs.Common.{◌≡◌, ◌++◌, drop}
-use Rattle.decide_waiting.specs.Places.{all_after_one}
+use Rattle.decide_waiting.specs.Steps.{all_after_one}
 use Rattle.decide_waiting.proofs.places.all_after_one.Given as goal
 
 -- what was reckoned, and what is left

@@ -2,9 +2,10 @@ use Rattle.std.proofs.Common.{◌≡◌, ℕ, ◌+◌, ◌∷◌, List, drop, le
 use Rattle.std.specs.Prelude.{find}
 use Rattle.std.proofs.lemmas.List.{drop_more}
 use Rattle.base_sorted.specs.Tables.{AreInOrder}
-use Rattle.model_catalogue.specs.CatalogueLists.{CatalogueLists, quotas_of}
+use Rattle.model_catalogue.specs.CatalogueLists.{CatalogueLists}
+use Rattle.model_catalogue.specs.Kept.{quotas_of}
 use Rattle.draft_changes.specs.DraftState.{now}
-use Rattle.decide_waiting.specs.Places.{is_full_at}
+use Rattle.decide_waiting.specs.Steps.{is_full_at}
 use Rattle.decide_waiting.proofs.Closed.{found_here, found_later, first_by_ids}
 use Rattle.decide_waiting.proofs.places.first_closed.Goals as goal
 

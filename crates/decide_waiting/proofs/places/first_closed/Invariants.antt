@@ -1,7 +1,8 @@
 use Rattle.std.proofs.Common.{◌≡◌, drop}
 use Rattle.std.specs.Prelude.{find}
 use Rattle.draft_changes.specs.DraftState.{now}
-use Rattle.decide_waiting.specs.Places.{is_full_at, first_closed}
+use Rattle.decide_waiting.specs.Places.{first_closed}
+use Rattle.decide_waiting.specs.Steps.{is_full_at}
 use Rattle.decide_waiting.proofs.places.first_closed.Given as goal
 
 -- the first full one of those that are left is the answer

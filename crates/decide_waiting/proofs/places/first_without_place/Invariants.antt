@@ -1,5 +1,5 @@
 use Rattle.std.proofs.Common.{◌≡◌, drop}
-use Rattle.decide_waiting.specs.Places.{first_without_place}
+use Rattle.decide_waiting.specs.Steps.{first_without_place}
 use Rattle.decide_waiting.proofs.places.first_without_place.Given as goal
 
 -- what is left has the answer

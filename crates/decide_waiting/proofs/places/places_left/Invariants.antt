@@ -1,6 +1,6 @@
 use Rattle.std.proofs.Common.{◌≡◌, ◌++◌, drop, map}
 use Rattle.draft_changes.specs.DraftState.{now}
-use Rattle.decide_waiting.specs.Places.{places_left}
+use Rattle.decide_waiting.specs.Steps.{places_left}
 use Rattle.decide_waiting.proofs.places.places_left.Given as goal
 
 -- what was reckoned, and what is left

@@ -2,8 +2,8 @@ use Rattle.std.proofs.Common.{ℕ, List, ◌+◌, get_or, drop, sym, ap, ◌∙�
 use Rattle.std.proofs.lemmas.List.{drop_more}
 use Rattle.draft_changes.specs.DraftState.{now}
 use Rattle.draft_changes.proofs.Extensions.{extends_both}
-use Rattle.decide_waiting.specs.Sending.{CanSend}
-use Rattle.decide_waiting.specs.Serving.{each_sent, run_after}
+use Rattle.decide_waiting.specs.Steps.{CanSend}
+use Rattle.decide_waiting.specs.Steps.{each_sent, run_after}
 use Rattle.decide_waiting.proofs.OneTurn.{turn_joined, turn_ends, turn_can_send}
 use Rattle.decide_waiting.proofs.serving.serve_each.Goals as goal
 

@@ -1,8 +1,8 @@
 use Rattle.std.proofs.Common.{◌≡◌, [], map, drop}
 use Rattle.draft_changes.specs.DraftState.{now, Extends}
-use Rattle.decide_waiting.specs.Places.{places_left}
-use Rattle.decide_waiting.specs.Sending.{CanSend}
-use Rattle.decide_waiting.specs.Serving.{each_sent, run_after}
+use Rattle.decide_waiting.specs.Steps.{places_left}
+use Rattle.decide_waiting.specs.Steps.{CanSend}
+use Rattle.decide_waiting.specs.Steps.{each_sent, run_after}
 use Rattle.decide_waiting.proofs.serving.serve_each.Given as goal
 
 -- the ids and changes so far, and those of what is left

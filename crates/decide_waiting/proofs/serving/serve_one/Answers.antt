@@ -3,7 +3,8 @@ use Rattle.model_catalogue.specs.CatalogueLists.{CatalogueLists}
 use Rattle.model_catalogue.specs.declared.rows.Quota.{Quota}
 use Rattle.draft_changes.specs.DraftState.{now}
 use Rattle.model_rows.specs.Lists.{State, waiting_at}
-use Rattle.decide_waiting.specs.Places.{used_unwaited, places_left, first_without_place, all_after_one}
+use Rattle.decide_waiting.specs.Places.{used_unwaited}
+use Rattle.decide_waiting.specs.Steps.{places_left, first_without_place, all_after_one}
 use Rattle.decide_waiting.specs.Sending.{place_in}
 use Rattle.decide_waiting.proofs.Closed.{first_by_left, all_left_after, left_long}
 use Rattle.decide_waiting.proofs.Leaves.{own_place}

@@ -2,7 +2,7 @@ use Rattle.std.proofs.Common.{◌≡◌, Bool, false, ℕ, Option, ap₂, option
 use Rattle.std.proofs.lemmas.Result.{on_ok_weaker}
 use Rattle.model_catalogue.specs.declared.rows.Quota.{Quota}
 use Rattle.model_rows.specs.declared.rows.Voucher.{Voucher}
-use Rattle.model_rows.specs.Headroom.{held_in}
+use Rattle.model_rows.specs.Asked.{held_in}
 use Rattle.model_rows.specs.Lists.{voucher_at}
 use Rattle.model_rows.specs.Usage.{blocks_if}
 use Rattle.draft_overlay.specs.Logs.{rows_of}

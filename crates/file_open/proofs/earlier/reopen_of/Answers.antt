@@ -1,15 +1,10 @@
-use Rattle.std.proofs.Common.{◌≡◌, ◌∙◌, arith, map}
-use Rattle.sqlite.specs.Effect.{Database}
+use Rattle.std.proofs.Common.{◌∙◌, arith}
 use Rattle.sqlite.specs.Held.{state}
-use Rattle.sqlite.specs.State.{HasCleanDisk}
-use Rattle.file_schema.specs.Versions.{schema_of_version}
 use Rattle.file_rows.specs.Tables.{Tables}
 use Rattle.file_scan.specs.Read.{tables_of}
-use Rattle.file_scan.specs.Rests.{IsOpenAt}
 use Rattle.file_scan.proofs.ReadLemmas.{if_err, on_ok}
 use Rattle.file_reads.specs.Since.{IsSince}
-use Rattle.file_open.specs.Supplied.{AreLacking}
-use Rattle.file_open.specs.Upgraded.{HoldsShopAt}
+use Rattle.file_open.specs.Upgraded.{HoldsLacking}
 use Rattle.file_open.proofs.OfVersion.{holds_shop, three_ok}
 use Rattle.file_open.proofs.Reasons.{reason_as, unread_as}
 use Rattle.file_open.proofs.earlier.reopen_of.Goals as goal
@@ -18,18 +13,19 @@ pub returns-in-Ok-clause-held : goal.returns-in-Ok-clause-held
 returns-in-Ok-clause-held g c =
     let own = c.args.own in
     let t = tables_of c.in-Ok.file in
-    let old = state g.S.Store c.args.connection.now in
     let new = state g.S.Store c.read_file_of.new.conn in
-    three_ok c.open_supplied.result _ _ _ (λ it. (t : Tables) × AreLacking own t it.lacking.exits.items it.lacking.spents.items
-    × (HasCleanDisk new → (db : Database) → IsOpenAt db old → db.schema ≡ schema_of_version own → HoldsShopAt own it.reopened.head t (g.B.Book.state it.reopened.book) (map (λ r. r.kept) t.kept) new))
+    three_ok c.open_supplied.result _ _ _
+    (λ it. (t : Tables) × HoldsLacking own g.S.Store c.args.connection.now c.read_file_of.new.conn it.reopened.head it.lacking.exits.items it.lacking.spents.items t (g.B.Book.state it.reopened.book))
     c.open_supplied.ensures.lacking c.open_supplied.ensures.sound (c.open_supplied.ensures.held c.in-Ok.ensures.limits)
     (λ it lacking sound stand. (
       t,
-      lacking,
-      λ clean db at known.
-          let since : IsSince own db.schema = record { version = own; from = omega arith; known = c.requires.version; is = known } in
-          let same = c.in-Ok.ensures.same clean in
-          holds_shop own t it.reopened.head (g.B.Book.state it.reopened.book) stand.0 stand.1 sound db new same.0.is_open (same.0.now_is ∙ at.now) (same.0.committed_is ∙ at.committed) known (c.in-Ok.ensures.held clean db at since),
+      record {
+        lacking = lacking;
+        held = λ clean db at known.
+            let since : IsSince own db.schema = record { version = own; from = omega arith; known = c.requires.version; is = known } in
+            let same = c.in-Ok.ensures.same clean in
+            holds_shop own t it.reopened.head (g.B.Book.state it.reopened.book) stand.0 stand.1 sound db new same.0.is_open (same.0.now_is ∙ at.now) (same.0.committed_is ∙ at.committed) known (c.in-Ok.ensures.held clean db at since);
+      },
     ))
 
 pub returns-in-Ok-clause-found : goal.returns-in-Ok-clause-found

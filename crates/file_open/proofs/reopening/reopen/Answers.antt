@@ -26,8 +26,11 @@ returns-in-Ok-clause-opened g c clean db at known =
     let same = c.in-Ok.ensures.same clean in
     both_on c.open_rows.result _ _ _ c.open_rows.ensures.head c.open_rows.ensures.held c.open_rows.ensures.numbered
     (λ it is of numbered.
-    is_opened t it.head it.next_row (g.B.Book.state it.book) old new (λ left is_open may. g.met.S.Store.settled c.read_outside.new.connection.store left is_open may) same.0.is_open c.in-Ok.ensures.outside (stays_same old new same) db (record { now = at.now; committed = at.committed }) known (subst IsDatabase at.now (c.schema_known.ensures at.is_open).0) held (of t (file_of db.trees t c.in-Ok.file held held)).0
-    (λ u also. (of u (file_of db.trees u c.in-Ok.file also held)).1) (of t (file_of db.trees t c.in-Ok.file held held)).2 (subst (λ (h : ShopRow). IsTypedShop h t) (sym is) (typed_read c.in-Ok.file c.in-Ok.ensures.version c.in-Ok.ensures.limits numbered)))
+    let mine = of t (file_of db.trees t c.in-Ok.file held held) in
+    let typed = subst (λ (h : ShopRow). IsTypedShop h t) (sym is) (typed_read c.in-Ok.file c.in-Ok.ensures.version c.in-Ok.ensures.limits numbered) in
+    let listed = subst IsDatabase at.now (c.schema_known.ensures at.is_open).0 in
+    is_opened t it.head it.next_row (g.B.Book.state it.book) old new (λ left is_open may. g.met.S.Store.settled c.read_outside.new.connection.store left is_open may) same.0.is_open c.in-Ok.ensures.outside (stays_same old new same) db
+    (record { now = at.now; committed = at.committed }) known listed held mine.0 (λ u also. (of u (file_of db.trees u c.in-Ok.file also held)).1) mine.2 typed)
 
 pub returns-in-Ok-clause-version : goal.returns-in-Ok-clause-version
 returns-in-Ok-clause-version g c = if_ok c.open_rows.result _ _ c.open_rows.ensures.head (λ it is. subst (λ (h : ShopRow). h.version ≡ this_version) (sym is) c.in-Ok.ensures.version)

@@ -5,4 +5,10 @@ use Rattle.file_rebuild.proofs.Offices.{order_in_parts}
 use Rattle.file_rebuild.proofs.counts.counts_rise.Goals as goal
 
 pub returns : goal.returns
-returns c = (λ truth. order_in_parts (λ c. c.quota) (λ c. c.quota) (λ n. n) (λ r. refl) 0 c.args.counts.now (subst (AreInOrder (λ n. n)) (c.as_slice.ensures.value ∙ c.in_ok-ids.ensures) (c.rises.ensures.0 truth)), λ order. c.rises.ensures.1 (subst (AreInOrder (λ n. n)) (sym (c.as_slice.ensures.value ∙ c.in_ok-ids.ensures)) (order_of_parts (λ c. c.quota) (λ c. c.quota) (λ n. n) (λ r. refl) 0 c.args.counts.now order)))
+returns c =
+    let ids = c.as_slice.ensures.value ∙ c.in_ok-ids.ensures in (
+      λ truth. order_in_parts (λ c. c.quota) (λ c. c.quota) (λ n. n) (λ r. refl) 0 c.args.counts.now
+          (subst (AreInOrder (λ n. n)) ids (c.rises.ensures.0 truth)),
+      λ order. c.rises.ensures.1
+          (subst (AreInOrder (λ n. n)) (sym ids) (order_of_parts (λ c. c.quota) (λ c. c.quota) (λ n. n) (λ r. refl) 0 c.args.counts.now order)),
+    )

@@ -1,4 +1,5 @@
 use Rattle.std.proofs.Common.{◌≡◌, ◌∙◌, length, ap, map, arith}
+use Rattle.model_catalogue.specs.Limits.{most_rows}
 use Rattle.office_reports.specs.Counted.{counted_all}
 use Rattle.office_reports.proofs.Entering.{all_at_most_weaker, all_counted, counted_one}
 use Rattle.office_reports.proofs.entries.count_all.Goals as goal
@@ -11,7 +12,7 @@ loop-position-preserved g c =
 pub count_position-requires-clause-few : goal.count_position-requires-clause-few
 count_position-requires-clause-few g c =
     let rows : length c.positions-position-items.result.now ≡ length (g.B.Book.state c.args.book.now).lists.positions = ap length c.positions-position-items.ensures in
-    all_at_most_weaker c.loop-position.position-index 1000000 c.loop-position.rows.items (omega (arith, rows, c.loop-position.auto.position-index-end, c.requires.rows)) c.loop-position.invariant.few
+    all_at_most_weaker c.loop-position.position-index most_rows c.loop-position.rows.items (omega (arith, rows, c.loop-position.auto.position-index-end, c.requires.rows)) c.loop-position.invariant.few
 
 pub returns : goal.returns
 returns g c =

@@ -1,4 +1,5 @@
 use Rattle.std.proofs.Common.{◌≡◌, ◌∙◌, length, refl, ap, map, arith}
+use Rattle.model_catalogue.specs.Limits.{most_rows}
 use Rattle.office_reports.specs.Noted.{noted_all}
 use Rattle.office_reports.proofs.Noting.{all_few_weaker, noted_one, all_noted}
 use Rattle.office_reports.proofs.sales.note_all.Goals as goal
@@ -17,9 +18,9 @@ returns-clause-noted g c =
 pub note_position-requires-clause-few : goal.note_position-requires-clause-few
 note_position-requires-clause-few g c =
     let rows : length c.positions-position-items.result.now ≡ length (g.B.Book.state c.args.book.now).lists.positions = ap length c.positions-position-items.ensures in
-    all_few_weaker c.loop-position.position-index 1000000 c.loop-position.sales.items (omega (arith, rows, c.loop-position.auto.position-index-end, c.requires.rows)) c.loop-position.invariant.few
+    all_few_weaker c.loop-position.position-index most_rows c.loop-position.sales.items (omega (arith, rows, c.loop-position.auto.position-index-end, c.requires.rows)) c.loop-position.invariant.few
 
 pub returns-clause-few : goal.returns-clause-few
 returns-clause-few g c =
     let rows : length c.positions-position-items.result.now ≡ length (g.B.Book.state c.args.book.now).lists.positions = ap length c.positions-position-items.ensures in
-    all_few_weaker c.loop-position.position-index 1000000 c.loop-position.sales.items (omega (arith, rows, c.loop-position.auto.position-index-end, c.requires.rows)) c.loop-position.invariant.few
+    all_few_weaker c.loop-position.position-index most_rows c.loop-position.sales.items (omega (arith, rows, c.loop-position.auto.position-index-end, c.requires.rows)) c.loop-position.invariant.few

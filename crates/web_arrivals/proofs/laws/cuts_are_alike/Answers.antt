@@ -1,8 +1,8 @@
-use Rattle.web_arrivals.specs.DeskView.{meaning}
+use Rattle.web_arrivals.specs.DeskView.{trait_meaning}
 use Rattle.web_arrivals.proofs.CutLemmas.{cuts-alike}
 use Rattle.web_arrivals.proofs.laws.cuts_are_alike.Goals as goal
 
 pub returns : goal.returns
 returns g c = λ house v bytes ticks written old new other newer.
-    cuts-alike (meaning g.T.Tables.sure g.T.Tables.holds g.T.Tables.knows g.T.Tables.may_leave) (meaning g.U.Tables.sure g.U.Tables.holds g.U.Tables.knows g.U.Tables.may_leave)
+    cuts-alike (trait_meaning g.T.Tables) (trait_meaning g.U.Tables)
     house v bytes ticks written old new other newer

@@ -1,17 +1,17 @@
 use Rattle.std.proofs.Common.{[], ◌∷◌}
-use Rattle.web_http.specs.Written.{Page}
+use Rattle.web_http.specs.Written.{Page, writer_page}
 use Rattle.web_http.proofs.WriteLemmas.{stops, goes_on}
 use Rattle.web_cli.proofs.saying.end_line.Goals as goal
 
 pub returns-in-Ok : goal.returns-in-Ok
 returns-in-Ok g c =
-    let old : Page = record { taken = g.W.Drain.taken c.args.writer.now; failures = g.W.Drain.failures c.args.writer.now } in
-    let mid : Page = record { taken = g.W.Drain.taken c.write_all.new.writer; failures = g.W.Drain.failures c.write_all.new.writer } in
-    let new : Page = record { taken = g.W.Drain.taken c.write_all-in-Ok.new.writer; failures = g.W.Drain.failures c.write_all-in-Ok.new.writer } in
+    let old : Page = writer_page g.W.Drain c.args.writer.now in
+    let mid : Page = writer_page g.W.Drain c.write_all.new.writer in
+    let new : Page = writer_page g.W.Drain c.write_all-in-Ok.new.writer in
     goes_on c.write_all-in-Ok.result c.in-Ok.field-0 old mid new c.args.text.now (10 ∷ []) c.in-Ok.ensures c.write_all-in-Ok.ensures
 
 pub returns-in-Err : goal.returns-in-Err
 returns-in-Err g c =
-    let old : Page = record { taken = g.W.Drain.taken c.args.writer.now; failures = g.W.Drain.failures c.args.writer.now } in
-    let new : Page = record { taken = g.W.Drain.taken c.write_all.new.writer; failures = g.W.Drain.failures c.write_all.new.writer } in
+    let old : Page = writer_page g.W.Drain c.args.writer.now in
+    let new : Page = writer_page g.W.Drain c.write_all.new.writer in
     stops c.in-Err.refused old new c.args.text.now (10 ∷ []) c.in-Err.ensures

@@ -2,6 +2,7 @@ use Rattle.std.proofs.Common.{◌++◌, [], ℕ, List, refl, sym, ap, ◌∙◌,
 use Rattle.web_connection.specs.Run.{AtTick, Progress, cursor}
 use Rattle.base_devices.proofs.ToldLemmas.{Gives-nil, Gives-append}
 use Rattle.web_connection.proofs.RunLemmas.{progress_none, progress_more, progress_feed, finished_more, finished_none, finished_all, finished_at, broken_more, broken_at, limit_broken, read_broken, run_leads, run_ends}
+use Rattle.web_connection.proofs.CountLemmas.{read_counted, step_counted}
 use Rattle.web_connection.proofs.run.serve_all.Goals as goal
 
 pub loop-turn-init : goal.loop-turn-init
@@ -9,7 +10,7 @@ loop-turn-init g c = record {
   done = (
     [],
     Gives-nil _,
-    progress_none (AtTick g.T.Ticks.reads g.D.Desk.serves) _ _ (ap (λ (l : List ℕ). cursor l (g.T.Ticks.told c.args.ticks.now) c.args.desk.now (g.W.Drain.taken c.args.writer.now)) c.requires.empty),
+    progress_none (AtTick g.T.Ticks.reads g.D.Desk.serves) _ _ (ap (λ (l : List ℕ). cursor l (g.T.Ticks.told c.args.ticks.now) c.args.desk.now (g.W.Drain.taken c.args.writer.now)) c.requires),
     record { most = omega arith; some = omega arith },
   );
   clock = refl;
@@ -18,39 +19,51 @@ loop-turn-init g c = record {
   calls = omega arith;
 }
 
-pub returns-in-Ok-false-clause-leads : goal.returns-in-Ok-false-clause-leads
-returns-in-Ok-false-clause-leads g c =
+pub returns-in-Ok-false : goal.returns-in-Ok-false
+returns-in-Ok-false g c =
     let S = AtTick g.T.Ticks.reads g.D.Desk.serves in
     let inv = c.loop-turn.invariant in
     let done = inv.done in
-    let e = rw c.in-Ok-false.field-0-test at c.in-Ok-false.ensures in
-    run_leads S _ _ _ done.0 c.loop-turn.turn done.1 done.3 inv.calls (finished_at S _ _ _ _ _ _ _ (finished_all S _ _ _ (finished_more S _ _ _ done.2 e.leads)))
+    let e = rw c.in-Ok-false.field-0-test at c.in-Ok-false.ensures in record {
+      leads = run_leads S _ _ _ done.0 c.loop-turn.turn done.1 done.3 inv.calls (finished_at S _ _ _ _ _ _ _ (finished_all S _ _ _ (finished_more S _ _ _ done.2 e.leads)));
+      counted = (e.counted.0 ∙ inv.clock, e.counted.1 ∙ inv.output, inv.input);
+      calls = omega (arith, inv.calls);
+    }
 
-pub returns-in-Err-clause-leads : goal.returns-in-Err-clause-leads
-returns-in-Err-clause-leads g c =
+pub returns-in-Err : goal.returns-in-Err
+returns-in-Err g c =
     let S = AtTick g.T.Ticks.reads g.D.Desk.serves in
     let inv = c.loop-turn.invariant in
-    let done = inv.done in
-    run_leads S _ _ _ done.0 c.loop-turn.turn done.1 done.3 inv.calls (broken_at S _ _ _ _ _ _ _ (broken_more S _ _ _ _ done.2 c.in-Err.ensures.leads))
+    let done = inv.done in record {
+      leads = run_leads S _ _ _ done.0 c.loop-turn.turn done.1 done.3 inv.calls (broken_at S _ _ _ _ _ _ _ (broken_more S _ _ _ _ done.2 c.in-Err.ensures.leads));
+      counted = step_counted c.in-Err.failure _ _ _ _ inv.clock inv.output inv.input c.in-Err.ensures.counted;
+      calls = omega (arith, inv.calls);
+    }
 
-pub returns-in-Ok-false-take_in-clause-leads : goal.returns-in-Ok-false-take_in-clause-leads
-returns-in-Ok-false-take_in-clause-leads g c =
+pub returns-in-Ok-false-take_in : goal.returns-in-Ok-false-take_in
+returns-in-Ok-false-take_in g c =
     let S = AtTick g.T.Ticks.reads g.D.Desk.serves in
     let inv = c.loop-turn.invariant in
     let done = inv.done in
     let e = rw c.in-Ok-true.field-0-test at c.in-Ok-true.ensures in
-    let read = rw c.in-Ok-false-take_in.field-0-test at c.in-Ok-false-take_in.ensures in
-    run_ends S _ _ _ done.0 _ c.loop-turn.turn done.1 read.leads.0 done.3 (omega (arith, read.calls, inv.calls))
-    (finished_at S _ _ _ _ _ _ _ (finished_none S _ _ _ (progress_more S _ _ _ done.2 e.leads.0) e.leads.1 read.leads.2))
+    let read = rw c.in-Ok-false-take_in.field-0-test at c.in-Ok-false-take_in.ensures in record {
+      leads = run_ends S _ _ _ done.0 _ c.loop-turn.turn done.1 read.leads.0 done.3 (omega (arith, read.calls, inv.calls))
+          (finished_at S _ _ _ _ _ _ _ (finished_none S _ _ _ (progress_more S _ _ _ done.2 e.leads.0) e.leads.1 read.leads.2));
+      counted = (e.counted.0 ∙ inv.clock, e.counted.1 ∙ inv.output, read.counted ∙ inv.input);
+      calls = omega (arith, inv.calls, read.calls);
+    }
 
-pub returns-in-Err-take_in-clause-leads : goal.returns-in-Err-take_in-clause-leads
-returns-in-Err-take_in-clause-leads g c =
+pub returns-in-Err-take_in : goal.returns-in-Err-take_in
+returns-in-Err-take_in g c =
     let S = AtTick g.T.Ticks.reads g.D.Desk.serves in
     let inv = c.loop-turn.invariant in
     let done = inv.done in
     let e = rw c.in-Ok-true.field-0-test at c.in-Ok-true.ensures in
-    let read = c.in-Err-take_in.ensures in
-    read_broken S _ _ _ done.0 _ _ _ c.loop-turn.turn _ _ done.1 done.3 (progress_more S _ _ _ done.2 e.leads.0) e.leads.1 (omega (arith, read.calls, inv.calls)) read.leads read.counted
+    let read = c.in-Err-take_in.ensures in record {
+      leads = read_broken S _ _ _ done.0 _ _ _ c.loop-turn.turn _ _ done.1 done.3 (progress_more S _ _ _ done.2 e.leads.0) e.leads.1 (omega (arith, read.calls, inv.calls)) read.leads read.counted;
+      counted = read_counted c.in-Err-take_in.failure _ _ _ (e.counted.0 ∙ inv.clock) (e.counted.1 ∙ inv.output) inv.input read.counted;
+      calls = omega (arith, inv.calls, read.calls);
+    }
 
 pub loop-turn-preserved : goal.loop-turn-preserved
 loop-turn-preserved g c =
@@ -77,25 +90,34 @@ loop-turn-preserved g c =
       calls = omega (arith, read.calls, inv.calls);
     }
 
-pub returns-in-Ok-true-serve_ready-clause-leads : goal.returns-in-Ok-true-serve_ready-clause-leads
-returns-in-Ok-true-serve_ready-clause-leads g c =
+pub returns-in-Ok-true-serve_ready : goal.returns-in-Ok-true-serve_ready
+returns-in-Ok-true-serve_ready g c =
     let S = AtTick g.T.Ticks.reads g.D.Desk.serves in
     let inv = c.loop-turn.invariant in
     let done = inv.done in
-    let e = rw c.in-Ok-true-serve_ready.field-0-test at c.in-Ok-true-serve_ready.ensures in
-    run_leads S _ _ _ done.0 _ done.1 done.3 inv.calls (limit_broken S _ _ _ _ _ _ (progress_more S _ _ _ done.2 e.leads.0) e.leads.1)
+    let e = rw c.in-Ok-true-serve_ready.field-0-test at c.in-Ok-true-serve_ready.ensures in record {
+      leads = run_leads S _ _ _ done.0 _ done.1 done.3 inv.calls (limit_broken S _ _ _ _ _ _ (progress_more S _ _ _ done.2 e.leads.0) e.leads.1);
+      counted = (e.counted.0 ∙ inv.clock, e.counted.1 ∙ inv.output, inv.input, omega (arith, inv.calls));
+      calls = omega (arith, inv.calls);
+    }
 
-pub returns-in-Ok-false-serve_ready-clause-leads : goal.returns-in-Ok-false-serve_ready-clause-leads
-returns-in-Ok-false-serve_ready-clause-leads g c =
+pub returns-in-Ok-false-serve_ready : goal.returns-in-Ok-false-serve_ready
+returns-in-Ok-false-serve_ready g c =
     let S = AtTick g.T.Ticks.reads g.D.Desk.serves in
     let inv = c.loop-turn.invariant in
     let done = inv.done in
-    let e = rw c.in-Ok-false-serve_ready.field-0-test at c.in-Ok-false-serve_ready.ensures in
-    run_leads S _ _ _ done.0 _ done.1 done.3 inv.calls (finished_at S _ _ _ _ _ _ _ (finished_all S _ _ _ (finished_more S _ _ _ done.2 e.leads)))
+    let e = rw c.in-Ok-false-serve_ready.field-0-test at c.in-Ok-false-serve_ready.ensures in record {
+      leads = run_leads S _ _ _ done.0 _ done.1 done.3 inv.calls (finished_at S _ _ _ _ _ _ _ (finished_all S _ _ _ (finished_more S _ _ _ done.2 e.leads)));
+      counted = (e.counted.0 ∙ inv.clock, e.counted.1 ∙ inv.output, inv.input);
+      calls = omega (arith, inv.calls);
+    }
 
-pub returns-in-Err-serve_ready-clause-leads : goal.returns-in-Err-serve_ready-clause-leads
-returns-in-Err-serve_ready-clause-leads g c =
+pub returns-in-Err-serve_ready : goal.returns-in-Err-serve_ready
+returns-in-Err-serve_ready g c =
     let S = AtTick g.T.Ticks.reads g.D.Desk.serves in
     let inv = c.loop-turn.invariant in
-    let done = inv.done in
-    run_leads S _ _ _ done.0 _ done.1 done.3 inv.calls (broken_at S _ _ _ _ _ _ _ (broken_more S _ _ _ _ done.2 c.in-Err-serve_ready.ensures.leads))
+    let done = inv.done in record {
+      leads = run_leads S _ _ _ done.0 _ done.1 done.3 inv.calls (broken_at S _ _ _ _ _ _ _ (broken_more S _ _ _ _ done.2 c.in-Err-serve_ready.ensures.leads));
+      counted = step_counted c.in-Err-serve_ready.failure _ _ _ _ inv.clock inv.output inv.input c.in-Err-serve_ready.ensures.counted;
+      calls = omega (arith, inv.calls);
+    }

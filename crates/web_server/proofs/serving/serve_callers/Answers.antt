@@ -12,10 +12,10 @@ returns-in-Ok-open g c =
     let from = between (g.T.Ticks.told c.args.ticks.now) c.args.desk.now in
     let to = between (g.T.Ticks.told c.serve_with.new.ticks) c.serve_with.new.desk in
     let hall = c.serve_with.new.house.hall in
-    let count = rw (c.in-Ok-open.ensures.hall, c.in-Ok-open.ensures.left) at c.serve_with.ensures.count in
+    let count = rw (c.in-Ok-open.ensures.hall, c.in-Ok-open.ensures.left) at c.serve_with.ensures.hosts.count in
     answers_all S from to 128 (most_of c.args.connections) hall c.serve_with.result
     (omega (arith, count))
-    (subst (λ (h : Callers). Happened S from to h hall) c.in-Ok-open.ensures.hall c.serve_with.ensures.hall)
+    (subst (λ (h : Callers). Happened S from to h hall) c.in-Ok-open.ensures.hall c.serve_with.ensures.hosts.hall)
     (subst (λ (h : Callers). RoundsEnd c.serve_with.result h hall) c.in-Ok-open.ensures.hall c.serve_with.ensures.ends)
 
 pub returns : goal.returns

@@ -1,4 +1,4 @@
-use Rattle.std.proofs.Common.{◌∙◌, List, subst, sym}
+use Rattle.std.proofs.Common.{List, subst, sym}
 use Rattle.std.proofs.lemmas.List.{take_more}
 use Rattle.web_connection.specs.Run.{AtTick}
 use Rattle.web_turns.specs.Acts.{between}
@@ -11,9 +11,7 @@ pub loop-next-preserved : goal.loop-next-preserved
 loop-next-preserved g c =
     let S = AtTick g.T.Ticks.reads g.D.Desk.serves in
     let from = between (g.T.Ticks.told c.args.ticks.now) c.args.desk.now in
-    let to = between (g.T.Ticks.told c.do_next.new.ticks) c.do_next.new.desk in record {
-      does = subst (λ (order : List Next). DoesAll S from to c.args.hall.now c.do_next.new.hall order)
-          (sym (take_more c.args.order.now c.loop-next.next-index _ c.loop-next-test.true))
-          (does_more S from _ to c.args.hall.now _ c.do_next.new.hall _ _ c.loop-next.invariant.does c.do_next.ensures.does);
-      piece = c.do_next.ensures.piece ∙ c.loop-next.invariant.piece;
-    }
+    let to = between (g.T.Ticks.told c.do_next.new.ticks) c.do_next.new.desk in
+    subst (λ (order : List Next). DoesAll S from to c.args.hall.now c.do_next.new.hall order)
+    (sym (take_more c.args.order.now c.loop-next.next-index _ c.loop-next-test.true))
+    (does_more S from _ to c.args.hall.now _ c.do_next.new.hall _ _ c.loop-next.invariant c.do_next.ensures.does)

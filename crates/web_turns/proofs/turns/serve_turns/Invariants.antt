@@ -1,11 +1,10 @@
-use Rattle.std.proofs.Common.{◌≡◌, length, take}
+use Rattle.std.proofs.Common.{take}
 use Rattle.web_connection.specs.Run.{AtTick}
 use Rattle.web_turns.specs.Acts.{between}
 use Rattle.web_turns.specs.Halls.{DoesAll}
 use Rattle.web_turns.proofs.turns.serve_turns.Given as goal
 
 abbrev pub invariant-loop-next : goal.invariant-loop-next
-invariant-loop-next g l = record {
-  does : DoesAll (AtTick g.T.Ticks.reads g.D.Desk.serves) (between (g.T.Ticks.told l.fn.ticks) l.fn.desk) (between (g.T.Ticks.told l.ticks) l.desk) l.fn.hall l.hall (take l.next-index l.fn.order);
-  piece : length l.piece ≡ length l.fn.piece;
-}
+invariant-loop-next g l =
+    DoesAll (AtTick g.T.Ticks.reads g.D.Desk.serves) (between (g.T.Ticks.told l.fn.ticks) l.fn.desk) (between (g.T.Ticks.told l.ticks) l.desk)
+    l.fn.hall l.hall (take l.next-index l.fn.order)

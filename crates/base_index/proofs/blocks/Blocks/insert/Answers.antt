@@ -78,7 +78,8 @@ invariant_of-self c =
     let block = get_or new c.half_of.result.block [] in
     let count : length (insert block c.half_of.result.offset c.args.entry) ≡ length block + 1 = length-insert block c.half_of.result.offset c.args.entry (omega (arith, half.3, half.4)) in
     let made : c.insert.new.self ≡ set new c.half_of.result.block (insert block c.half_of.result.offset c.args.entry) = c.insert.ensures ∙ ap (λ (l : List (List ℕ)). set l c.half_of.result.block (insert (get_or l c.half_of.result.block []) c.half_of.result.offset c.args.entry)) c.split.ensures in
-    subst (λ (l : List (List ℕ)). AreBlocks l (a.last + 1) (a.room - 1)) (sym made) (blocks_set new (a.last + 1) a.room (blocks_split a.chain a.last a.room c.self.invariant spot.block c.spot_of-spot.ensures.block more full) c.half_of.result.block (a.room - 1) (insert block c.half_of.result.offset c.args.entry) half.1 half.0 (λ pos. omega (arith, count)) (omega (arith, count, half.4, room, c.requires.room)))
+    subst (λ (l : List (List ℕ)). AreBlocks l (a.last + 1) (a.room - 1)) (sym made)
+    (blocks_set new (a.last + 1) a.room (blocks_split a.chain a.last a.room c.self.invariant spot.block c.spot_of-spot.ensures.block more full) c.half_of.result.block (a.room - 1) (insert block c.half_of.result.offset c.args.entry) half.1 half.0 (λ pos. omega (arith, count)) (omega (arith, count, half.4, room, c.requires.room)))
 
 pub returns-then-filled-eq-SIZE-clause-rows : goal.returns-then-filled-eq-SIZE-clause-rows
 returns-then-filled-eq-SIZE-clause-rows c =
@@ -112,7 +113,8 @@ invariant_of-self-2 c =
     let lt : spot.block < length a.chain = omega (arith, room, c.requires.room, c.spot_of-spot.ensures.block, c.self.invariant.within, c.self.invariant.room_is) in
     let block = get_or a.chain spot.block [] in
     let count : length (insert block spot.offset c.args.entry) ≡ length block + 1 = length-insert block spot.offset c.args.entry c.spot_of-spot.ensures.within in
-    subst (λ (l : List (List ℕ)). AreBlocks l a.last (a.room - (c.over.result - c.over-2.result))) (sym c.insert-2.ensures) (blocks_set a.chain a.last a.room c.self.invariant spot.block (a.room - (c.over.result - c.over-2.result)) (insert block spot.offset c.args.entry) lt c.spot_of-spot.ensures.block (λ pos. omega (arith, count)) (omega (arith, count, c.over.ensures, c.over-2.ensures, c.filled-filled.ensures.count, room, c.requires.room)))
+    subst (λ (l : List (List ℕ)). AreBlocks l a.last (a.room - (c.over.result - c.over-2.result))) (sym c.insert-2.ensures)
+    (blocks_set a.chain a.last a.room c.self.invariant spot.block (a.room - (c.over.result - c.over-2.result)) (insert block spot.offset c.args.entry) lt c.spot_of-spot.ensures.block (λ pos. omega (arith, count)) (omega (arith, count, c.over.ensures, c.over-2.ensures, c.filled-filled.ensures.count, room, c.requires.room)))
 
 pub returns-clause-rows : goal.returns-clause-rows
 returns-clause-rows c =

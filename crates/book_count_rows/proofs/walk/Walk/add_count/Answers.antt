@@ -14,5 +14,5 @@ returns g c =
     c.in_ok-add_unless.ensures
     ∙ ap (λ b. c.args.rows.now.items ++ told_unless b count) c.same_as.ensures
     ∙ ap (λ (l : List QuotaCount). c.args.rows.now.items ++ l)
-    (told_is state c.requires.ordered c.args.self.now.at c.args.self.now.shifts.now.quotas.items c.args.quota.now c.known-known.result.base c.in_ok-usage.usage (option_copied c.shift_of.result) c.known-known.result.had
+    (told_is state c.ids_rise.ensures c.args.self.now.at c.args.self.now.shifts.now.quotas.items c.args.quota.now c.known-known.result.base c.in_ok-usage.usage (option_copied c.shift_of.result) c.known-known.result.had
     c.known-known.ensures.base (c.shift_of.ensures ∙ ap (λ (l : List QuotaShift). quota_shift_at c.args.quota.now.id l) c.deref.ensures.value) c.in_ok-usage.ensures c.known-known.ensures.had)

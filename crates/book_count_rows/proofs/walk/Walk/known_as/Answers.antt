@@ -9,5 +9,5 @@ pub returns-else-has-clause-had : goal.returns-else-has-clause-had
 returns-else-has-clause-had g c =
     let state = g.B.Book.state c.args.self.now.book.now in
     let q = c.args.quota.now in
-    let undue : has q.id (due_quotas state.moment c.args.self.now.at state.lists) ≡ false = sym (has-rising q.id (due_quotas state.moment c.args.self.now.at state.lists)) ∙ ap (has q.id) (sym c.requires.walk.due) ∙ sym c.has.ensures ∙ c.if-has.false in
-    ap Some (c.usage_of-base.ensures ∙ used_alike state.moment c.args.self.now.at c.requires.walk.past state.lists q c.requires.stood undue c.requires.walk.ordered)
+    let undue : has q.id (due_quotas state.moment c.args.self.now.at state.lists) ≡ false = sym (has-rising q.id (due_quotas state.moment c.args.self.now.at state.lists)) ∙ ap (has q.id) (sym c.args.self.now.dues) ∙ sym c.has.ensures ∙ c.if-has.false in
+    ap Some (c.usage_of-base.ensures ∙ used_alike state.moment c.args.self.now.at c.args.self.now.past state.lists q c.requires undue c.ids_rise.ensures)

@@ -18,5 +18,5 @@ pub returns-else-has : goal.returns-else-has
 returns-else-has g c =
     let lists = (g.B.Book.state c.args.self.now.book.now).lists in
     let changes = c.args.self.now.changes.now in
-    let unput : has c.args.id (flat_map quotas_by changes) ≡ false = sym (has-rising c.args.id (flat_map quotas_by changes)) ∙ ap (has c.args.id) (sym c.requires.put) ∙ sym c.has.ensures ∙ c.if-has.false in
+    let unput : has c.args.id (flat_map quotas_by changes) ≡ false = sym (has-rising c.args.id (flat_map quotas_by changes)) ∙ ap (has c.args.id) (sym c.args.self.now.puts) ∙ sym c.has.ensures ∙ c.if-has.false in
     c.quota-before.ensures ∙ ap (quota_at c.args.id) c.catalogue.ensures ∙ sym (quota_stood c.args.id changes lists unput)

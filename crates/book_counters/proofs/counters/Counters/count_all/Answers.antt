@@ -1,9 +1,16 @@
+use Rattle.std.proofs.Common.{arith}
 use Rattle.book_counters.proofs.counters.Counters.count_all.Goals as goal
 
+pub count_again-requires-clause-fits : goal.count_again-requires-clause-fits
+count_again-requires-clause-fits c =
+    let fits = rw (← c.self.view_is) at c.requires in
+    record {
+      rows = omega (arith, fits);
+      usages = omega (arith, fits);
+      redeems = omega (arith, fits);
+      spents = omega (arith, fits);
+      holds = omega (arith, fits);
+    }
+
 pub invariant_of-self : goal.invariant_of-self
-invariant_of-self c = record {
-  counted = record { usages = c.count_again.ensures.usages; redeems = c.count_again.ensures.redeems; small = c.count_again.ensures.small.uses };
-  spent = c.count_again.ensures.spents;
-  priced = c.count_again.ensures.small.discounts;
-  held = c.count_again.ensures.held;
-}
+invariant_of-self c = c.count_again.ensures.kept

@@ -1,9 +1,16 @@
+use Rattle.std.proofs.Common.{arith}
 use Rattle.book_counters.proofs.counters.Counters.put_counts.Goals as goal
 
+pub settle-requires-clause-fits : goal.settle-requires-clause-fits
+settle-requires-clause-fits c =
+    let fits = rw (← c.self.view_is) at c.requires.room in
+    record {
+      rows = omega (arith, fits);
+      usages = omega (arith, fits);
+      redeems = omega (arith, fits);
+      spents = omega (arith, fits);
+      holds = omega (arith, fits);
+    }
+
 pub invariant_of-self : goal.invariant_of-self
-invariant_of-self c = record {
-  counted = record { usages = c.settle.ensures.usages; redeems = c.settle.ensures.redeems; small = c.settle.ensures.small.uses };
-  spent = c.settle.ensures.spents;
-  priced = c.settle.ensures.small.discounts;
-  held = c.settle.ensures.held;
-}
+invariant_of-self c = c.settle.ensures.kept

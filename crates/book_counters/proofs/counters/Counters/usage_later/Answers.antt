@@ -17,7 +17,7 @@ returns-in-Ok-clause-value g c =
     let place = rw quotas at c.in-Ok.ensures.found in
     let stands = rw (← c.self.view_is) at c.requires.stands in
     let moment = rw (← c.self.view_is) at c.requires.moment in
-    let kept : c.index.result.now ≡ usage_of lists state.moment quota = c.index.ensures ∙ kept_usage (usage_of lists state.moment) lists.catalogue.quotas c.self.inside.usages.items quota c.in-Ok.place _ c.self.invariant.counted.usages order place stands in
+    let kept : c.index.result.now ≡ usage_of lists state.moment quota = c.index.ensures ∙ kept_usage (usage_of lists state.moment) lists.catalogue.quotas c.self.inside.usages.items quota c.in-Ok.place _ c.self.invariant.usages order place stands in
     let value = rw c.of-ended.ensures at c.later.ensures.value in
     rw (← c.self.view_is) (value ∙ time_is quota lists state.moment c.args.at moment c.known.ensures c.index.result.now kept c.later.ensures.fits)
 
@@ -35,4 +35,4 @@ returns-in-Ok-clause-cost g c =
     rw (← c.self.view_is) (omega (arith, cost))
 
 pub later-requires-clause-redeems : goal.later-requires-clause-redeems
-later-requires-clause-redeems g c = rw c.of-ended.ensures (c.deref.ensures.value ∙ c.self.invariant.counted.redeems)
+later-requires-clause-redeems g c = rw c.of-ended.ensures (c.deref.ensures.value ∙ c.self.invariant.redeems)

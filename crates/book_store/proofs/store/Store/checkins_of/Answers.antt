@@ -9,7 +9,9 @@ use Rattle.book_store.proofs.store.Store.checkins_of.Goals as goal
 
 pub loop-place-preserved : goal.loop-place-preserved
 loop-place-preserved c =
-    one_more (λ r. r.id) c.args.self.now.state.lists.checkins (λ (l : List Checkin). filter (λ r. r.list == c.args.list && r.position == c.args.position) l) c.in_group-ids.result c.loop-place.place _ _ c.loop-place.invariant c.at.result _ (filter_splits (λ r. r.list == c.args.list && r.position == c.args.position)) (omega (arith, c.len-place-end.ensures, c.loop-place-test.true)) c.at.ensures c.in_ok-push_checkin.ensures
+    one_more (λ r. r.id) c.args.self.now.state.lists.checkins (λ (l : List Checkin). filter (λ r. r.list == c.args.list && r.position == c.args.position) l) c.in_group-ids.result c.loop-place.place _
+    _ c.loop-place.invariant c.at.result _ (filter_splits (λ r. r.list == c.args.list && r.position == c.args.position)) (omega (arith, c.len-place-end.ensures, c.loop-place-test.true)) c.at.ensures
+    c.in_ok-push_checkin.ensures
 
 pub returns : goal.returns
 returns c =

@@ -12,7 +12,9 @@ pub returns-clause-value : goal.returns-clause-value
 returns-clause-value c =
     let lists = c.args.self.now.state.lists in
     walked (λ i. one_if (λ (r : CartPos). is_live_cart c.args.at r && is_in c.args.quota.now r.product) (cart_at i lists)) c.carts_naming-named.result c.loop-place.place c.loop-place.count (omega (arith, c.len-place-end.ensures, c.loop-place-test.false)) c.loop-place.invariant.counted
-    ∙ counted (λ r. r.id) (λ (r : CartPos). names c.args.voucher r.voucher) (λ (r : CartPos). is_live_cart c.args.at r && is_in c.args.quota.now r.product) (λ (r : CartPos). holds c.args.at c.args.voucher r && is_in c.args.quota.now r.product) lists.carts c.carts_naming-named.result c.carts_naming-named.ensures.finds (λ r. and_between (names c.args.voucher r.voucher) (is_live_cart c.args.at r) (is_in c.args.quota.now r.product))
+    ∙ counted (λ r. r.id) (λ (r : CartPos). names c.args.voucher r.voucher) (λ (r : CartPos). is_live_cart c.args.at r && is_in c.args.quota.now r.product)
+    (λ (r : CartPos). holds c.args.at c.args.voucher r && is_in c.args.quota.now r.product) lists.carts c.carts_naming-named.result c.carts_naming-named.ensures.finds
+    (λ r. and_between (names c.args.voucher r.voucher) (is_live_cart c.args.at r) (is_in c.args.quota.now r.product))
 
 pub loop-place-preserved : goal.loop-place-preserved
 loop-place-preserved c =

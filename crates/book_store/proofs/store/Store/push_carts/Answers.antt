@@ -9,7 +9,9 @@ use Rattle.book_store.proofs.store.Store.push_carts.Goals as goal
 
 pub loop-place-preserved : goal.loop-place-preserved
 loop-place-preserved c =
-    one_more (λ r. r.id) c.args.self.now.state.lists.carts (λ (l : List CartPos). map (λ r. r.id) (filter (λ r. same_text r.cart_id c.args.cart.now) l)) c.with_text-found.result c.loop-place.place _ _ c.loop-place.invariant c.at.result _ (ids_split (λ r. r.id) (λ r. same_text r.cart_id c.args.cart.now)) (omega (arith, c.len-place-end.ensures, c.loop-place-test.true)) c.at.ensures c.in_ok-push_cart.ensures
+    one_more (λ r. r.id) c.args.self.now.state.lists.carts (λ (l : List CartPos). map (λ r. r.id) (filter (λ r. same_text r.cart_id c.args.cart.now) l)) c.with_text-found.result c.loop-place.place _ _
+    c.loop-place.invariant c.at.result _ (ids_split (λ r. r.id) (λ r. same_text r.cart_id c.args.cart.now)) (omega (arith, c.len-place-end.ensures, c.loop-place-test.true)) c.at.ensures
+    c.in_ok-push_cart.ensures
 
 pub returns : goal.returns
 returns c =

@@ -7,7 +7,6 @@ use Rattle.model_rows.specs.Change.{changed}
 use Rattle.draft_deltas.specs.Logs.{Log, rows_of}
 use Rattle.draft_deltas.proofs.Logs.{when_ok}
 use Rattle.draft_deltas.specs.Tallied.{IsNext}
-use Rattle.draft_changes.specs.Used.{AreBases}
 use Rattle.draft_changes.specs.CanCome.{CanCome}
 use Rattle.draft_changes.specs.DraftState.{DraftState, IsDraft, now}
 use Rattle.draft_changes.proofs.Extensions.{now-with_change}
@@ -65,14 +64,12 @@ invariant_of-self-2 g c =
     let next = c.in_ok-count.ensures.ok in
     let can : CanCome at log change = subst (λ (d : DraftState). CanCome d.moment d.log change) (sym c.self.view_is) c.requires in
     let pushed : c.push.new.self ≡ record log { changes = log.changes ++ change ∷ [] } = when_ok _ c.push.result (sym c.is_err.ensures.value ∙ c.if-is_err.false) c.push.ensures.ok in
-    let book_quotas : c.quotas.result.now ≡ book.lists.catalogue.quotas = c.quotas.ensures ∙ ap (λ (catalogue : CatalogueLists). catalogue.quotas) c.catalogue-catalogue.ensures in
     let quotas : c.catalogue-catalogue.result.now.lists.quotas ≡ log.base.catalogue.quotas = ap (λ (catalogue : CatalogueLists). catalogue.quotas) c.catalogue-catalogue.ensures ∙ ap (λ (l : Lists). l.catalogue.quotas) (sym before.base) in
     let counted = subst (λ (qs : List Quota). IsNext at change (rows_of log) qs inside.tallies new) quotas next in
     subst (λ (l : Log). IsDraft book l at new c.ask_bases.new.bases.items c.note_voucher.new.noted.items) (sym pushed)
     (draft_more book log at inside.tallies inside.bases.items inside.noted.items before change new c.ask_bases.new.bases.items c.note_voucher.new.noted.items c.in_ok-note_voucher.ensures.ok
     (tallied_more at log change inside.tallies new c.known.ensures.kept can before.now counted)
-    counted.counts.on counted.uses.on counted.reached c.ask_bases.ensures.order
-    (subst (λ (qs : List Quota). AreBases book.lists at qs c.ask_bases.new.bases.items) book_quotas c.ask_bases.ensures.known))
+    counted.counts.on counted.uses.on counted.reached c.ask_bases.ensures)
 
 pub returns-clause-ok : goal.returns-clause-ok
 returns-clause-ok g c =

@@ -1,7 +1,7 @@
 use Rattle.std.proofs.Common.{Bool, option_copied, ap₂}
 use Rattle.model_catalogue.specs.declared.rows.Quota.{Quota}
 use Rattle.model_rows.specs.Usage.{blocks_if}
-use Rattle.model_rows.specs.Headroom.{held_in}
+use Rattle.model_rows.specs.Asked.{held_in}
 use Rattle.draft_overlay.specs.Logs.{rows_of}
 use Rattle.draft_deltas.specs.Shift.{voucher_counts, left_of}
 use Rattle.draft_deltas.proofs.Reached.{no_other_more}

@@ -1,6 +1,6 @@
 use Rattle.std.proofs.Common.{◌∙◌}
 use Rattle.web_arrivals.specs.Coming.{arrival}
-use Rattle.web_arrivals.specs.DeskView.{meaning, house_of, words_of}
+use Rattle.web_arrivals.specs.DeskView.{house_of, trait_meaning, words_of}
 use Rattle.web_handler.proofs.DeskLemmas.{known, looked-up, unavailable}
 use Rattle.web_handler.proofs.desk.ShopDeskDesk.serve.Goals as goal
 
@@ -15,14 +15,14 @@ returns-in-Ok g c =
       was_sure = λ sure. looked.sure (answered.sure sure);
       once = λ sure house knows.
           let before = answered.sure sure in
-          known (meaning g.T.Tables.sure g.T.Tables.holds g.T.Tables.knows g.T.Tables.may_leave) c.args.self.now c.number.new.self c.answer.new.self c.args.tick c.args.frame.now c.answer.result c.in-Ok.number house
+          known (trait_meaning g.T.Tables) c.args.self.now c.number.new.self c.answer.new.self c.args.tick c.args.frame.now c.answer.result c.in-Ok.number house
           looked.organizer looked.event (looked.found before house knows) (looked.same before) (looked.house before) looked.crash (answered.once sure);
     }
 
 pub returns-in-Err : goal.returns-in-Err
 returns-in-Err g c =
     let looked = c.in-Err.ensures in
-    let tables = meaning g.T.Tables.sure g.T.Tables.holds g.T.Tables.knows g.T.Tables.may_leave in
+    let tables = trait_meaning g.T.Tables in
     record {
       organizer = looked.organizer;
       event = looked.event;

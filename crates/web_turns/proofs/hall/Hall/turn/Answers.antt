@@ -5,16 +5,18 @@ use Rattle.web_turns.specs.Acts.{between}
 use Rattle.web_turns.specs.Halls.{Caller, TakesTurn}
 use Rattle.web_turns.proofs.hall.Hall.turn.Goals as goal
 
-pub returns-clause-turn : goal.returns-clause-turn
-returns-clause-turn g c =
+pub returns : goal.returns
+returns g c =
     let items = c.self.inside.places.items in
     let S = AtTick g.T.Ticks.reads g.D.Desk.serves in
     let from = between (g.T.Ticks.told c.args.ticks.now) c.args.desk.now in
     let to = between (g.T.Ticks.told c.turn.new.ticks) c.turn.new.desk in
-    rw (← c.self.view_is) (
-      c.turn.new.self,
-      subst (λ (old : Option Caller). TakesTurn S from to old c.turn.new.self)
-          (c.index_mut-found.ensures.value ∙ get_or_default items c.args.place _ None (omega (arith, c.if-place-len.false, c.len.ensures)))
-          c.turn.ensures.turn,
-      refl,
-    )
+    rw (← c.self.view_is) (record {
+      turn = (
+        c.turn.new.self,
+        subst (λ (old : Option Caller). TakesTurn S from to old c.turn.new.self)
+            (c.index_mut-found.ensures.value ∙ get_or_default items c.args.place _ None (omega (arith, c.if-place-len.false, c.len.ensures)))
+            c.turn.ensures.turn,
+        refl,
+      );
+    })

@@ -1,0 +1,34 @@
+use Rattle.std.proofs.Common.{◌≡◌, List, get_or, Some, sym, ap, ap₂, ◌∙◌, subst, arith}
+use Rattle.base_sorted.specs.Tables.{AreInOrder, row_at}
+use Rattle.base_sorted.proofs.Places.{row_at_place, row_at_gap}
+use Rattle.model_catalogue.specs.declared.rows.Quota.{Quota}
+use Rattle.model_catalogue.specs.CatalogueLists.{CatalogueLists}
+use Rattle.model_rows.specs.Lists.{Lists}
+use Rattle.draft_deltas.specs.Logs.{rows_of}
+use Rattle.draft_changes.specs.Used.{used, raised}
+use Rattle.draft_changes.proofs.Standing.{value_there}
+use Rattle.draft_changes.proofs.over.Weighing.used.Goals as goal
+
+pub returns-in-Ok : goal.returns-in-Ok
+returns-in-Ok g c =
+    let w = c.args.self.now in
+    let log = w.overlay.now in
+    let quota = c.args.quota.now in
+    let place = c.in-Ok.place in
+    let quotas = w.quotas.now in
+    let sold : c.catalogue.result.now.lists.quotas ≡ quotas =
+    ap (λ (k : CatalogueLists). k.quotas) c.catalogue.ensures ∙ ap (λ (l : Lists). l.catalogue.quotas) (sym w.base) ∙ sym w.sold in
+    let sorted : AreInOrder (λ (q : Quota). q.id) quotas = subst (λ (l : List Quota). AreInOrder (λ q. q.id) l) sold c.known.ensures.in_order in
+    let found : Some (get_or quotas place quota) ≡ Some quota =
+    sym (row_at_place (λ (q : Quota). q.id) 0 quotas quota.id place quota sorted c.in-Ok.ensures.found) ∙ ap (λ (l : List Quota). row_at (λ q. q.id) quota.id l) w.sold ∙ c.requires in
+    let here : get_or quotas place quota ≡ quota = cc found in
+    let base : c.base_of.result ≡ used log.base w.at quota = c.base_of.ensures.value quota ∙ ap (used log.base w.at) here in
+    let value = λ (l : Lists). value_there (used l w.at) quotas log.base.catalogue.quotas place quota w.sold c.in-Ok.ensures.found.in_range (sym here) in
+    omega (arith, w.counted place, value (rows_of log), value log.base, base, c.moved.ensures, ap₂ raised c.of-count.ensures.come c.of-count.ensures.gone, ap₂ raised c.of-count.ensures.gone c.of-count.ensures.come)
+
+pub returns-in-Err : goal.returns-in-Err
+returns-in-Err g c =
+    let w = c.args.self.now in
+    let quota = c.args.quota.now in
+    let none = row_at_gap (λ (q : Quota). q.id) w.quotas.now quota.id _ c.in-Err.ensures.absent in
+    absurd (cc (sym none ∙ ap (λ (l : List Quota). row_at (λ q. q.id) quota.id l) w.sold ∙ c.requires))
