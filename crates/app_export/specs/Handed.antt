@@ -48,6 +48,7 @@ module _ {K : Type 0} (takes : K → ExportRow → K → Type 0) (refuses : K �
     pub refused : refuses mid row fault after
     pub are : P (rows ++ row ∷ [])
 
+  -- what was taken of a walk that ended so: where the sink refused, up to the row that it refused, else all that were read
   abbrev pub HandsSome : WalkError → Type 0
   HandsSome (Sink fault) = HandsUpTo fault
   HandsSome (Rows e) = HandsAll
