@@ -13,7 +13,7 @@ use Rattle.model_rows.specs.Lists.{Lists, State, positions_of}
 use Rattle.model_invariant.specs.Positions.{AllHavePositions, CountFrom, by_positionid}
 use Rattle.model_invariant.specs.Sound.{IsSound}
 use Rattle.model_export.specs.declared.row.ExportRow.{ExportRow}
-use Rattle.model_export.specs.Exported.{export_row, exported, rows_of_order}
+use Rattle.model_export.specs.Exported.{export_row, rows_exported, rows_of_order}
 use Rattle.app_csv.specs.ByNumber.{HasLinesBy, by_number}
 use Rattle.app_csv.specs.PositionLines.{positions_text}
 
@@ -75,7 +75,7 @@ all_rise lists n (o ∷ os) order whole =
 
 pub is_by_number : (state : State) → IsSound state → HasLinesBy by_number (positions_text state.lists)
 is_by_number state sound = record {
-  rows = exported state.lists;
+  rows = rows_exported state.lists;
   lines = refl;
   rise = all_rise state.lists 0 state.lists.orders sound.ids.orders.in_order sound.ordered.whole;
 }

@@ -5,7 +5,7 @@ use Rattle.base_devices.specs.Told.{Adds}
 use Rattle.web_http.specs.Written.{AddsPart, Page}
 use Rattle.model_export.specs.declared.sink.SinkFault.{SinkFault}
 use Rattle.model_export.specs.declared.sink.SinkFault.TheVariants.{Memory, Output}
-use Rattle.app_csv.specs.Lines.{IsAtLine, written}
+use Rattle.app_csv.specs.Lines.{IsAtLine, written_text}
 use Rattle.app_csv.specs.declared.positions.Lines.{Lines}
 
 -- what comes next begins a line
@@ -13,12 +13,12 @@ abbrev pub IsReady : Lines → Type 0
 IsReady lines = IsAtLine lines.text
 
 -- the text of the lines
-abbrev pub gathered : Lines → List ℕ
-gathered lines = written (λ v. v.items) lines.text
+abbrev pub gathered_text : Lines → List ℕ
+gathered_text lines = written_text (λ v. v.items) lines.text
 
 -- the same, but for the last bytes, which the CSV writer holds back
-abbrev pub settled : Lines → List ℕ
-settled lines = (writer_under lines.text).items
+abbrev pub settled_text : Lines → List ℕ
+settled_text lines = (writer_under lines.text).items
 
 -- A text goes behind what is gathered, of which the front is handed on, perhaps none of it.
 abbrev pub Goes : List ℕ → List ℕ → List ℕ → Page → Page → Type 0

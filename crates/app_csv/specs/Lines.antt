@@ -14,12 +14,12 @@ pub record IsAtLine {W : Type 0} (writer : Writer W) : Type 0 where
   pub wrote : has_written writer ≡ false
 
 -- what was written: what stands in the text, and what isn't handed on to it yet
-abbrev pub written : {W : Type 0} → (W → List ℕ) → Writer W → List ℕ
-written text writer = text (writer_under writer) ++ writer_pending writer
+abbrev pub written_text : {W : Type 0} → (W → List ℕ) → Writer W → List ℕ
+written_text text writer = text (writer_under writer) ++ writer_pending writer
 
 -- a writer of bytes that stood before a line has this text more
 abbrev pub GainsText : List ℕ → Writer (Vec ℕ) → Writer (Vec ℕ) → Type 0
-GainsText text old new = IsAtLine old → written (λ v. v.items) new ≡ written (λ v. v.items) old ++ text
+GainsText text old new = IsAtLine old → written_text (λ v. v.items) new ≡ written_text (λ v. v.items) old ++ text
 
 -- the fields of a line with one more
 pub record Gains (field : List ℕ) (old new : ByteRecord) : Type 0 where

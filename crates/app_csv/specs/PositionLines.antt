@@ -7,7 +7,7 @@ use Rattle.base_values.specs.Codes.{order_code}
 use Rattle.base_values.specs.Money.{cents_text}
 use Rattle.model_rows.specs.Letters.{status_letter}
 use Rattle.model_rows.specs.Lists.{Lists}
-use Rattle.model_export.specs.Exported.{exported}
+use Rattle.model_export.specs.Exported.{rows_exported}
 use Rattle.model_export.specs.declared.row.ExportRow.{ExportRow}
 use Rattle.app_csv.specs.Lines.{number_or_empty}
 
@@ -40,4 +40,4 @@ rows_text rows = header_line ++ concat (map row_line rows)
 
 -- of all order positions, order by order, by their numbers there
 abbrev pub positions_text : Lists → List ℕ
-positions_text lists = rows_text (exported lists)
+positions_text lists = rows_text (rows_exported lists)

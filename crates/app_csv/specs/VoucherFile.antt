@@ -30,24 +30,24 @@ abbrev pub is_line : List (List ℕ) → Bool
 is_line fields = (length fields == 12) && (are_columns fields 0 && (are_columns fields 4 && are_columns fields 8))
 
 -- the value of a column of a line, both from 1, where it can be read
-abbrev pub known : {A : Type 0} → ℕ → ℕ → Option A → Result A FileFault
-known line at None = Err (Column line at)
-known line at (Some value) = Ok value
+abbrev pub known_value : {A : Type 0} → ℕ → ℕ → Option A → Result A FileFault
+known_value line at None = Err (Column line at)
+known_value line at (Some value) = Ok value
 
 -- the voucher that a line of these fields asks for; a file gives no budget
 unfoldable pub voucher_of : ℕ → List (List ℕ) → Result NewVoucher FileFault
 voucher_of line fields = do
   check (is_line fields) (Line line)
   check (is_code (column fields 0)) (Column line 1)
-  usages ← known line 2 (uses_in (column fields 1))
-  until ← known line 3 (moment_in (column fields 2))
-  block ← known line 4 (flag_in (column fields 3))
-  ignore ← known line 5 (flag_in (column fields 4))
-  mode ← known line 6 (mode_in (column fields 5))
-  value ← known line 7 (value_in mode (column fields 6))
-  item ← known line 8 (id_in (column fields 7))
-  variation ← known line 9 (id_in (column fields 8))
-  quota ← known line 10 (id_in (column fields 9))
+  usages ← known_value line 2 (uses_in (column fields 1))
+  until ← known_value line 3 (moment_in (column fields 2))
+  block ← known_value line 4 (flag_in (column fields 3))
+  ignore ← known_value line 5 (flag_in (column fields 4))
+  mode ← known_value line 6 (mode_in (column fields 5))
+  value ← known_value line 7 (value_in mode (column fields 6))
+  item ← known_value line 8 (id_in (column fields 7))
+  variation ← known_value line 9 (id_in (column fields 8))
+  quota ← known_value line 10 (id_in (column fields 9))
   check (is_text (column fields 10)) (Column line 11)
   check (is_text (column fields 11)) (Column line 12)
   Ok (record {

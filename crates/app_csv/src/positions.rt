@@ -5,7 +5,7 @@ ghost use Rattle.std.specs.List.{concat};
 ghost use Rattle.csv.specs.Records.{fields_of, partial_of};
 ghost use Rattle.base_values.specs.Codes.{order_code};
 ghost use Rattle.base_values.specs.Money.{cents_text};
-ghost use Rattle.app_csv.specs.Handing.{IsReady, gathered, settled};
+ghost use Rattle.app_csv.specs.Handing.{IsReady, gathered_text, settled_text};
 ghost use Rattle.app_csv.specs.Lines.{Gains, GainsText, IsAtLine};
 ghost use Rattle.app_csv.specs.PositionLines.{code_or_empty, header_line, row_fields, row_line, rows_text};
 
@@ -28,7 +28,7 @@ impl Lines {
     /// The line of the columns' names.
     pub fn new(alloc: Global) -> Result<Lines, AllocError>
         ensures ready { IfOk result IsReady }
-        ensures names { IfOk result (λ lines. gathered lines ≡ header_line) }
+        ensures names { IfOk result (λ lines. gathered_text lines ≡ header_line) }
     {
         let mut text = WriterBuilder::new().from_writer(Vec::new(alloc));
         append_header(&mut text, alloc)?;
@@ -43,7 +43,7 @@ impl Lines {
     pub(crate) fn add(&mut self, alloc: Global, row: &ExportRow) -> Result<(), AllocError>
         ensures ready { OnOk result (IsReady self.old → IsReady self.new) }
         ensures text { OnOk result (IsReady self.old
-            → gathered self.new ≡ gathered self.old ++ row_line row.now) }
+            → gathered_text self.new ≡ gathered_text self.old ++ row_line row.now) }
     {
         self.fields.clear();
         push_row(&mut self.fields, alloc, row)?;
@@ -52,7 +52,7 @@ impl Lines {
 
     /// The bytes that are gathered, but for the last ones, at most 8,192.
     pub(crate) fn len(&self) -> usize
-        ensures { result ≡ length (settled self.now) }
+        ensures { result ≡ length (settled_text self.now) }
     {
         self.text.get_ref().len()
     }
@@ -60,8 +60,8 @@ impl Lines {
     /// Takes the text out, and leaves none.
     pub(crate) fn take(&mut self, alloc: Global) -> Result<Vec<u8>, AllocError>
         ensures ready { IsReady self.new }
-        ensures empty { gathered self.new ≡ [] }
-        ensures text { IfOk result (λ text. text.items ≡ gathered self.old) }
+        ensures empty { gathered_text self.new ≡ [] }
+        ensures text { IfOk result (λ text. text.items ≡ gathered_text self.old) }
     {
         let fresh = WriterBuilder::new().from_writer(Vec::new(alloc));
         match mem::replace(&mut self.text, fresh).into_inner() {
@@ -83,8 +83,8 @@ pub fn export_positions(alloc: Global, rows: &[ExportRow]) -> Result<Body, Alloc
 // Adds the line of each of these rows.
 fn add_rows(lines: &mut Lines, alloc: Global, rows: &[ExportRow]) -> Result<(), AllocError>
     requires { IsReady lines.old }
-    ensures { OnOk result (gathered lines.new
-        ≡ gathered lines.old ++ concat (map row_line rows.now)) }
+    ensures { OnOk result (gathered_text lines.new
+        ≡ gathered_text lines.old ++ concat (map row_line rows.now)) }
 {
     for row in rows {
         lines.add(alloc, row)?;

@@ -2,7 +2,7 @@
 
 ghost use Rattle.std.specs.Prelude.{◌≡◌, []};
 ghost use Rattle.web_http.specs.Written.{writer_page};
-ghost use Rattle.app_csv.specs.Handing.{HandsOn, IsReady, gathered};
+ghost use Rattle.app_csv.specs.Handing.{HandsOn, IsReady, gathered_text};
 
 use crate::positions::Lines;
 use base_devices::Drain;
@@ -35,8 +35,8 @@ impl<'a, W: Drain> CsvSink<'a, W> {
     pub fn hand_on(&mut self, alloc: Global) -> Result<(), SinkFault>
         ensures same { self.new.out.ghost_name ≡ self.old.out.ghost_name }
         ensures ready { IsReady self.new.lines.now }
-        ensures empty { gathered self.new.lines.now ≡ [] }
-        ensures handed { HandsOn result (gathered self.old.lines.now)
+        ensures empty { gathered_text self.new.lines.now ≡ [] }
+        ensures handed { HandsOn result (gathered_text self.old.lines.now)
             (writer_page W.Drain self.old.out.now) (writer_page W.Drain self.new.out.now) }
     {
         match self.lines.take(alloc) {
@@ -52,16 +52,16 @@ impl<'a, W: Drain> CsvSink<'a, W> {
 impl<W: Drain> Sink for CsvSink<'_, W> {
     ghost use Rattle.std.specs.Prelude.{◌≡◌, ◌++◌};
     ghost use Rattle.web_http.specs.Written.{writer_page};
-    ghost use Rattle.app_csv.specs.Handing.{Goes, IsReady, Stops, gathered};
+    ghost use Rattle.app_csv.specs.Handing.{Goes, IsReady, Stops, gathered_text};
     ghost use Rattle.app_csv.specs.PositionLines.{row_line};
 
     ghost takes = { λ old row new. (new.out.ghost_name ≡ old.out.ghost_name)
         × (IsReady old.lines.now → IsReady new.lines.now
-        × Goes (row_line row) (gathered old.lines.now) (gathered new.lines.now)
+        × Goes (row_line row) (gathered_text old.lines.now) (gathered_text new.lines.now)
         (writer_page W.Drain old.out.now) (writer_page W.Drain new.out.now)) };
 
     ghost refuses = { λ old row fault new. (new.out.ghost_name ≡ old.out.ghost_name)
-        × (IsReady old.lines.now → Stops fault (gathered old.lines.now ++ row_line row)
+        × (IsReady old.lines.now → Stops fault (gathered_text old.lines.now ++ row_line row)
         (writer_page W.Drain old.out.now) (writer_page W.Drain new.out.now)) };
 
     fn row(&mut self, alloc: Global, row: &ExportRow) -> Result<(), SinkFault> {

@@ -3,7 +3,7 @@
 ghost use Rattle.std.specs.Prelude.{◌≡◌, ◌≢◌, ◌≤◌, Ok, Err, IfOk, IfErr, map};
 ghost use Rattle.csv.specs.Records.{fields_of};
 ghost use Rattle.app_csv.specs.declared.voucher_file.FileFault.TheVariants.{Memory};
-ghost use Rattle.app_csv.specs.VoucherFile.{IsFile, AreLinesOf, FailsAsRead, are_columns, is_header, is_line, known, line_read, lines_read, names_four, rows_read, voucher_of};
+ghost use Rattle.app_csv.specs.VoucherFile.{IsFile, AreLinesOf, FailsAsRead, are_columns, is_header, is_line, known_value, line_read, lines_read, names_four, rows_read, voucher_of};
 
 use crate::columns::{
     column, flag_in, id_in, is_code, is_column, is_named, mode_in, moment_in, uses_in, value_in,
@@ -155,8 +155,8 @@ fn are_columns(row: &ByteRecord, at: usize) -> bool
 }
 
 // The value of a column of a line, where it can be read.
-fn known<T>(line: u64, at: u64, value: Option<T>) -> Result<T, FileFault>
-    ensures { result ≡ known line at value }
+fn known_value<T>(line: u64, at: u64, value: Option<T>) -> Result<T, FileFault>
+    ensures { result ≡ known_value line at value }
 {
     match value {
         None => Err(FileFault::Column(line, at)),
@@ -177,15 +177,15 @@ fn voucher_of(alloc: Global, line: u64, row: &ByteRecord) -> Result<NewVoucher, 
     if !is_code(code) {
         return Err(FileFault::Column(line, 1));
     }
-    let max_usages = known(line, 2, uses_in(column(row, 1)))?;
-    let valid_until = known(line, 3, moment_in(column(row, 2)))?;
-    let block_quota = known(line, 4, flag_in(column(row, 3)))?;
-    let allow_ignore_quota = known(line, 5, flag_in(column(row, 4)))?;
-    let price_mode = known(line, 6, mode_in(column(row, 5)))?;
-    let value = known(line, 7, value_in(price_mode, column(row, 6)))?;
-    let item = known(line, 8, id_in(column(row, 7)))?;
-    let variation = known(line, 9, id_in(column(row, 8)))?;
-    let quota = known(line, 10, id_in(column(row, 9)))?;
+    let max_usages = known_value(line, 2, uses_in(column(row, 1)))?;
+    let valid_until = known_value(line, 3, moment_in(column(row, 2)))?;
+    let block_quota = known_value(line, 4, flag_in(column(row, 3)))?;
+    let allow_ignore_quota = known_value(line, 5, flag_in(column(row, 4)))?;
+    let price_mode = known_value(line, 6, mode_in(column(row, 5)))?;
+    let value = known_value(line, 7, value_in(price_mode, column(row, 6)))?;
+    let item = known_value(line, 8, id_in(column(row, 7)))?;
+    let variation = known_value(line, 9, id_in(column(row, 8)))?;
+    let quota = known_value(line, 10, id_in(column(row, 9)))?;
     let tag = column(row, 10);
     if !is_text(tag) {
         return Err(FileFault::Column(line, 11));

@@ -15,7 +15,7 @@ use Rattle.sqlite_sql.specs.Program.{overlay}
 use Rattle.sqlite_sql.specs.Query.{IsAnswer, Output, output, output_cmp}
 use Rattle.sqlite_schema.specs.declared.command.Command.TheVariants.{Select}
 use Rattle.file_schema.specs.Tables.{schema}
-use Rattle.file_schema.specs.Parts.{shown}
+use Rattle.file_schema.specs.Parts.{row_shown}
 use Rattle.file_schema.specs.Shapes.{plainly}
 use Rattle.file_schema.proofs.Keyed.{same_filter}
 use Rattle.base_sorted.specs.Tables.{AreInOrder, row_at}
@@ -36,7 +36,7 @@ use Rattle.model_rows.specs.Lists.{Lists, State, voucher_at, order_at}
 use Rattle.model_rows.specs.Fits.{is_fit}
 use Rattle.model_invariant.specs.Sound.{IsSound}
 use Rattle.model_export.specs.declared.row.ExportRow.{ExportRow}
-use Rattle.model_export.specs.Exported.{code_of, export_row, exported}
+use Rattle.model_export.specs.Exported.{code_of, export_row, rows_exported}
 use Rattle.app_export.specs.Cells.{cells}
 use Rattle.app_export.proofs.Asked.{joined, names}
 use Rattle.app_export.proofs.Joined.{is_of, is_named, line, lines, lines_of, lines_turned, from_trees, of_one, without_code, with_code}
@@ -160,27 +160,27 @@ no_overlay db tree = rw (same_either {A = Option (List Row)} _ None)
 
 -- an answer puts in order what the join shows of the trees
 pub in_order : (db : Trees) (d : Database) → d.trees ≡ db → (rows : List Row) (a : IsAnswer joined (overlay d.trees []) [] rows)
-    → IsPermutation (lines (map (shown schema 12) (db 12)) (map (shown schema 11) (db 11)) (map (shown schema 8) (db 8))) a.ordered
+    → IsPermutation (lines (map (row_shown schema 12) (db 12)) (map (row_shown schema 11) (db 11)) (map (row_shown schema 8) (db 8))) a.ordered
 in_order db d is rows a =
     let over = overlay d.trees [] in
     let same : (tree : ℕ) → over tree ≡ db tree = λ tree. no_overlay d.trees tree ∙ ap (λ (x : Trees). x tree) is in
-    let outs : map (output joined) a.staged ≡ lines (map (shown schema 12) (db 12)) (map (shown schema 11) (db 11)) (map (shown schema 8) (db 8)) =
+    let outs : map (output joined) a.staged ≡ lines (map (row_shown schema 12) (db 12)) (map (row_shown schema 11) (db 11)) (map (row_shown schema 8) (db 8)) =
     ap (map (output joined)) a.grouped ∙ from_trees Null over []
-    ∙ ap (λ l. lines (map (shown schema 12) l) (map (shown schema 11) (over 11)) (map (shown schema 8) (over 8))) (same 12)
-    ∙ ap (λ l. lines (map (shown schema 12) (db 12)) (map (shown schema 11) l) (map (shown schema 8) (over 8))) (same 11)
-    ∙ ap (λ l. lines (map (shown schema 12) (db 12)) (map (shown schema 11) (db 11)) (map (shown schema 8) l)) (same 8) in
+    ∙ ap (λ l. lines (map (row_shown schema 12) l) (map (row_shown schema 11) (over 11)) (map (row_shown schema 8) (over 8))) (same 12)
+    ∙ ap (λ l. lines (map (row_shown schema 12) (db 12)) (map (row_shown schema 11) l) (map (row_shown schema 8) (over 8))) (same 11)
+    ∙ ap (λ l. lines (map (row_shown schema 12) (db 12)) (map (row_shown schema 11) (db 11)) (map (row_shown schema 8) l)) (same 8) in
     IsPermutation-trans _ _ _ (IsPermutation-same _ _ (sym (a.distinct ∙ outs))) a.same
 
 module _ (db : Trees) (t : Tables) (held : Holds db t) (shop : ShopRow) (s : State) (ks : List Kept) (st : Stand shop t s ks) (so : IsSound s) where
-  position_rows : IsPermutation (map position_row s.lists.positions) (map (shown schema 12) (db 12))
+  position_rows : IsPermutation (map position_row s.lists.positions) (map (row_shown schema 12) (db 12))
   position_rows =
-      subst (λ l. IsPermutation l (map (shown schema 12) (db 12))) (map-map row_of_position head_of_position s.lists.positions)
+      subst (λ l. IsPermutation l (map (row_shown schema 12) (db 12))) (map-map row_of_position head_of_position s.lists.positions)
       (IsPermutation-trans _ _ _ (IsPermutation-map row_of_position _ _ (IsPermutation-sym _ _ st.rows.positions)) held.1.1.1.1.1.1.1.1.1.0)
 
-  order_rows : IsPermutation (map order_row t.orders) (map (shown schema 11) (db 11))
+  order_rows : IsPermutation (map order_row t.orders) (map (row_shown schema 11) (db 11))
   order_rows = held.1.1.1.1.1.1.1.1.0
 
-  voucher_rows : IsPermutation (map voucher_row t.vouchers) (map (shown schema 8) (db 8))
+  voucher_rows : IsPermutation (map voucher_row t.vouchers) (map (row_shown schema 8) (db 8))
   voucher_rows = held.1.1.1.1.1.1.0
 
   shown_lines : lines (map position_row s.lists.positions) (map order_row t.orders) (map voucher_row t.vouchers) ≡ map (λ p. sorted_as (line_of s.lists p)) s.lists.positions
@@ -189,10 +189,10 @@ module _ (db : Trees) (t : Tables) (held : Holds db t) (shop : ShopRow) (s : Sta
       ∙ flat_map_singles (λ p. flat_map (lines_of (position_row p) (map voucher_row t.vouchers)) (map order_row t.orders)) (λ p. sorted_as (line_of s.lists p)) s.lists.positions
       (each_line s.lists t.orders t.vouchers s.lists.positions (one_line s.lists t.orders t.vouchers st.rows.orders st.rows.vouchers so.ids.orders.in_order so.ids.vouchers.in_order) so.ordered.each.stand so.fit.positions)
 
-  own : IsPermutation (exported s.lists) (map (line_of s.lists) s.lists.positions)
+  own : IsPermutation (rows_exported s.lists) (map (line_of s.lists) s.lists.positions)
   own = IsPermutation-trans _ _ _ (exported_same s.lists) (one_each (export_row s.lists) (line_of s.lists) s.lists.orders s.lists.positions (own_line s.lists so.ids.orders.in_order s.lists.positions so.ordered.each.stand))
 
-  all_lines : IsPermutation (map sorted_as (exported s.lists)) (lines (map (shown schema 12) (db 12)) (map (shown schema 11) (db 11)) (map (shown schema 8) (db 8)))
+  all_lines : IsPermutation (map sorted_as (rows_exported s.lists)) (lines (map (row_shown schema 12) (db 12)) (map (row_shown schema 11) (db 11)) (map (row_shown schema 8) (db 8)))
   all_lines =
       IsPermutation-trans _ _ _ (IsPermutation-map sorted_as _ _ own)
       (IsPermutation-trans _ _ _ (IsPermutation-same _ _ (map-map sorted_as (line_of s.lists) s.lists.positions))
@@ -200,12 +200,12 @@ module _ (db : Trees) (t : Tables) (held : Holds db t) (shop : ShopRow) (s : Sta
       (lines_turned _ _ _ _ _ _ position_rows order_rows voucher_rows)))
 
   -- an answer shows the lines of the export, in their order
-  pub answers : (d : Database) → d.trees ≡ db → (rows : List Row) → Reads (Select (plainly joined) names) d [] rows → rows ≡ map cells (exported s.lists)
+  pub answers : (d : Database) → d.trees ≡ db → (rows : List Row) → Reads (Select (plainly joined) names) d [] rows → rows ≡ map cells (rows_exported s.lists)
   answers d is rows h =
       let a : IsAnswer joined (overlay d.trees []) [] rows = h.answer Null in
-      let whole : IsPermutation (map sorted_as (exported s.lists)) a.ordered = IsPermutation-trans _ _ _ all_lines (in_order db d is rows a) in
-      let (es, turned, from) = pull_back sorted_as _ _ whole (exported s.lists) refl in
-      let near = all-permutation IsNear (exported s.lists) es turned (exported_near s.lists so.ordered.whole) in
+      let whole : IsPermutation (map sorted_as (rows_exported s.lists)) a.ordered = IsPermutation-trans _ _ _ all_lines (in_order db d is rows a) in
+      let (es, turned, from) = pull_back sorted_as _ _ whole (rows_exported s.lists) refl in
+      let near = all-permutation IsNear (rows_exported s.lists) es turned (exported_near s.lists so.ordered.whole) in
       let order = exported_rise s.lists so.ids.orders.in_order so.ordered.whole in
-      let equal : exported s.lists ≡ es = same_order key (exported s.lists) es order (rises es (exported s.lists) turned order near (subst (IsSorted (output_cmp joined)) from a.sorted)) turned in
+      let equal : rows_exported s.lists ≡ es = same_order key (rows_exported s.lists) es order (rises es (rows_exported s.lists) turned order near (subst (IsSorted (output_cmp joined)) from a.sorted)) turned in
       a.shown ∙ ap (map (λ (o : Output). o.1)) from ∙ map-map (λ (o : Output). o.1) sorted_as es ∙ ap (map cells) (sym equal)

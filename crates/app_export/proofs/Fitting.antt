@@ -19,7 +19,7 @@ use Rattle.sqlite_schema.specs.declared.command.Command.TheVariants.{Select}
 use Rattle.sqlite_resolve.specs.declared.compiled.Compiled.{Compiled}
 use Rattle.sqlite_resolve.specs.declared.error.CompileError.{CompileError}
 use Rattle.file_schema.specs.Tables.{schema}
-use Rattle.file_schema.specs.Parts.{shown}
+use Rattle.file_schema.specs.Parts.{row_shown}
 use Rattle.file_schema.specs.Shapes.{command_in, plainly}
 use Rattle.file_schema.specs.declared.error.RowError.{RowError}
 use Rattle.file_schema.specs.declared.error.RowError.TheVariants as row-errors
@@ -104,13 +104,13 @@ all_lines ps os vs positions orders vouchers =
     (λ p fit. of_rows ShowsLine IsFitOrder order_row (lines_of (position_row p) (map voucher_row vs)) (λ o _. with_order p o fit vs vouchers) os orders) ps positions
 
 module _ (db : Trees) (t : Tables) (held : Holds db t) (fit : AreFit t) where
-  position_rows : IsPermutation (map position_row t.positions) (map (shown schema 12) (db 12))
+  position_rows : IsPermutation (map position_row t.positions) (map (row_shown schema 12) (db 12))
   position_rows = held.1.1.1.1.1.1.1.1.1.0
 
-  order_rows : IsPermutation (map order_row t.orders) (map (shown schema 11) (db 11))
+  order_rows : IsPermutation (map order_row t.orders) (map (row_shown schema 11) (db 11))
   order_rows = held.1.1.1.1.1.1.1.1.0
 
-  voucher_rows : IsPermutation (map voucher_row t.vouchers) (map (shown schema 8) (db 8))
+  voucher_rows : IsPermutation (map voucher_row t.vouchers) (map (row_shown schema 8) (db 8))
   voucher_rows = held.1.1.1.1.1.1.0
 
   are_lines : (d : Database) → d.trees ≡ db → (rows : List Row) → Reads (Select (plainly joined) names) d [] rows → AllByRecursion IsLine rows

@@ -14,7 +14,7 @@ use Rattle.sqlite_sql.specs.declared.ops.BinaryOp.TheVariants.{Compare}
 use Rattle.sqlite_sql.specs.declared.ops.CompareOp.TheVariants.{Eq}
 use Rattle.sqlite_sql.specs.Query.{Output, output, matches_as, or_nulls}
 use Rattle.file_schema.specs.Tables.{schema}
-use Rattle.file_schema.specs.Parts.{shown}
+use Rattle.file_schema.specs.Parts.{row_shown}
 use Rattle.app_export.proofs.Asked.{joined, partner}
 
 -- ---- of rows as the tables show them
@@ -54,35 +54,35 @@ map_cond f true x = refl
 map_cond f false x = refl
 
 shows : ℕ → Row → Row
-shows tree = shown schema tree
+shows tree = row_shown schema tree
 
 module _ (lost : Value) (db : Trees) (params : Row) where
   -- a position, an order, and the vouchers that are named
-  after : (p o : Row) (vs : List Row) → map (output joined) (flat_map (λ v. cond (is_of (shown schema 12 p) (shown schema 11 o)) ((params ∷ p ∷ o ∷ v ∷ []) ∷ []) []) (or_nulls vs))
-      ≡ with_codes (shown schema 12 p) (shown schema 11 o) (map (shown schema 8) vs)
-  after p o [] = ap (λ l. l) (map-flat_map (output joined) (λ v. cond (is_of (shown schema 12 p) (shown schema 11 o)) ((params ∷ p ∷ o ∷ v ∷ []) ∷ []) []) ([] ∷ [])
-      ∙ ap (λ l. l ++ []) (map_cond (output joined) (is_of (shown schema 12 p) (shown schema 11 o)) (params ∷ p ∷ o ∷ [] ∷ [])) ∙ append-nil _)
+  after : (p o : Row) (vs : List Row) → map (output joined) (flat_map (λ v. cond (is_of (row_shown schema 12 p) (row_shown schema 11 o)) ((params ∷ p ∷ o ∷ v ∷ []) ∷ []) []) (or_nulls vs))
+      ≡ with_codes (row_shown schema 12 p) (row_shown schema 11 o) (map (row_shown schema 8) vs)
+  after p o [] = ap (λ l. l) (map-flat_map (output joined) (λ v. cond (is_of (row_shown schema 12 p) (row_shown schema 11 o)) ((params ∷ p ∷ o ∷ v ∷ []) ∷ []) []) ([] ∷ [])
+      ∙ ap (λ l. l ++ []) (map_cond (output joined) (is_of (row_shown schema 12 p) (row_shown schema 11 o)) (params ∷ p ∷ o ∷ [] ∷ [])) ∙ append-nil _)
   after p o (v ∷ vs) =
-      map-flat_map (output joined) (λ v. cond (is_of (shown schema 12 p) (shown schema 11 o)) ((params ∷ p ∷ o ∷ v ∷ []) ∷ []) []) (v ∷ vs)
-      ∙ flat_map_same_on _ (λ w. if_of (shown schema 12 p) (shown schema 11 o) (column (shown schema 8 w) 1)) (λ w. map_cond (output joined) (is_of (shown schema 12 p) (shown schema 11 o)) (params ∷ p ∷ o ∷ w ∷ [])) (v ∷ vs)
-      ∙ sym (flat_map-map (λ w. if_of (shown schema 12 p) (shown schema 11 o) (column w 1)) (shown schema 8) (v ∷ vs))
+      map-flat_map (output joined) (λ v. cond (is_of (row_shown schema 12 p) (row_shown schema 11 o)) ((params ∷ p ∷ o ∷ v ∷ []) ∷ []) []) (v ∷ vs)
+      ∙ flat_map_same_on _ (λ w. if_of (row_shown schema 12 p) (row_shown schema 11 o) (column (row_shown schema 8 w) 1)) (λ w. map_cond (output joined) (is_of (row_shown schema 12 p) (row_shown schema 11 o)) (params ∷ p ∷ o ∷ w ∷ [])) (v ∷ vs)
+      ∙ sym (flat_map-map (λ w. if_of (row_shown schema 12 p) (row_shown schema 11 o) (column w 1)) (row_shown schema 8) (v ∷ vs))
 
   -- a position and an order
-  of_order : (p o : Row) → map (output joined) (flat_map (λ v. cond (is_of (shown schema 12 p) (shown schema 11 o)) ((params ∷ p ∷ o ∷ v ∷ []) ∷ []) []) (or_nulls (filter (λ v. is_named (shown schema 12 p) (shown schema 8 v)) (db 8))))
-      ≡ lines_of (shown schema 12 p) (map (shown schema 8) (db 8)) (shown schema 11 o)
+  of_order : (p o : Row) → map (output joined) (flat_map (λ v. cond (is_of (row_shown schema 12 p) (row_shown schema 11 o)) ((params ∷ p ∷ o ∷ v ∷ []) ∷ []) []) (or_nulls (filter (λ v. is_named (row_shown schema 12 p) (row_shown schema 8 v)) (db 8))))
+      ≡ lines_of (row_shown schema 12 p) (map (row_shown schema 8) (db 8)) (row_shown schema 11 o)
   of_order p o =
-      after p o (filter (λ v. is_named (shown schema 12 p) (shown schema 8 v)) (db 8))
-      ∙ ap (with_codes (shown schema 12 p) (shown schema 11 o)) (sym (filter-map (is_named (shown schema 12 p)) (shown schema 8) (db 8)))
+      after p o (filter (λ v. is_named (row_shown schema 12 p) (row_shown schema 8 v)) (db 8))
+      ∙ ap (with_codes (row_shown schema 12 p) (row_shown schema 11 o)) (sym (filter-map (is_named (row_shown schema 12 p)) (row_shown schema 8) (db 8)))
 
   of_position : (p : Row)
-      → map (output joined) (flat_map (λ o. flat_map (λ v. cond (is_of (shown schema 12 p) (shown schema 11 o)) ((params ∷ p ∷ o ∷ v ∷ []) ∷ []) []) (or_nulls (filter (λ v. is_named (shown schema 12 p) (shown schema 8 v)) (db 8)))) (db 11))
-      ≡ flat_map (lines_of (shown schema 12 p) (map (shown schema 8) (db 8))) (map (shown schema 11) (db 11))
-  of_position p = map-flat_map (output joined) _ (db 11) ∙ flat_map_same_on _ (λ o. lines_of (shown schema 12 p) (map (shown schema 8) (db 8)) (shown schema 11 o)) (of_order p) (db 11)
-      ∙ sym (flat_map-map (lines_of (shown schema 12 p) (map (shown schema 8) (db 8))) (shown schema 11) (db 11))
+      → map (output joined) (flat_map (λ o. flat_map (λ v. cond (is_of (row_shown schema 12 p) (row_shown schema 11 o)) ((params ∷ p ∷ o ∷ v ∷ []) ∷ []) []) (or_nulls (filter (λ v. is_named (row_shown schema 12 p) (row_shown schema 8 v)) (db 8)))) (db 11))
+      ≡ flat_map (lines_of (row_shown schema 12 p) (map (row_shown schema 8) (db 8))) (map (row_shown schema 11) (db 11))
+  of_position p = map-flat_map (output joined) _ (db 11) ∙ flat_map_same_on _ (λ o. lines_of (row_shown schema 12 p) (map (row_shown schema 8) (db 8)) (row_shown schema 11 o)) (of_order p) (db 11)
+      ∙ sym (flat_map-map (lines_of (row_shown schema 12 p) (map (row_shown schema 8) (db 8))) (row_shown schema 11) (db 11))
 
-  pub from_trees : map (output joined) (matches_as lost db partner joined.from (params ∷ [])) ≡ lines (map (shown schema 12) (db 12)) (map (shown schema 11) (db 11)) (map (shown schema 8) (db 8))
-  from_trees = map-flat_map (output joined) _ (db 12) ∙ flat_map_same_on _ (λ p. flat_map (lines_of (shown schema 12 p) (map (shown schema 8) (db 8))) (map (shown schema 11) (db 11))) of_position (db 12)
-      ∙ sym (flat_map-map (λ p. flat_map (lines_of p (map (shown schema 8) (db 8))) (map (shown schema 11) (db 11))) (shown schema 12) (db 12))
+  pub from_trees : map (output joined) (matches_as lost db partner joined.from (params ∷ [])) ≡ lines (map (row_shown schema 12) (db 12)) (map (row_shown schema 11) (db 11)) (map (row_shown schema 8) (db 8))
+  from_trees = map-flat_map (output joined) _ (db 12) ∙ flat_map_same_on _ (λ p. flat_map (lines_of (row_shown schema 12 p) (map (row_shown schema 8) (db 8))) (map (row_shown schema 11) (db 11))) of_position (db 12)
+      ∙ sym (flat_map-map (λ p. flat_map (lines_of p (map (row_shown schema 8) (db 8))) (map (row_shown schema 11) (db 11))) (row_shown schema 12) (db 12))
 
 -- ---- whatever the order of the rows is
 

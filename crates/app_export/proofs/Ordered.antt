@@ -17,11 +17,11 @@ use Rattle.file_meaning.proofs.Order.{rows_at, at_above}
 use Rattle.model_rows.specs.declared.rows.Order.{Order}
 use Rattle.model_rows.specs.declared.rows.OrderPos.{OrderPos}
 use Rattle.model_rows.specs.Lists.{Lists, positions_of}
-use Rattle.model_invariant.specs.Positions.{by_positionid, placed, CountFrom, AllHavePositions}
+use Rattle.model_invariant.specs.Positions.{by_positionid, position_placed, CountFrom, AllHavePositions}
 use Rattle.model_invariant.proofs.ByNumber.{same_length}
 use Rattle.file_rows.specs.Cells.{number}
 use Rattle.model_export.specs.declared.row.ExportRow.{ExportRow}
-use Rattle.model_export.specs.Exported.{export_row, exported, rows_of_order}
+use Rattle.model_export.specs.Exported.{export_row, rows_exported, rows_of_order}
 use Rattle.app_export.specs.Cells.{cells}
 use Rattle.app_export.proofs.Asked.{joined}
 
@@ -59,21 +59,21 @@ module _ (lines : Order → OrderPos → ExportRow) (line : OrderPos → ExportR
 
 -- ---- whatever the order of the numbers is
 
-placed_same : (p : OrderPos) (qs : List OrderPos) → IsPermutation (placed p qs) (p ∷ qs)
+placed_same : (p : OrderPos) (qs : List OrderPos) → IsPermutation (position_placed p qs) (p ∷ qs)
 placed_same p [] = IsPermutation-refl (p ∷ [])
 placed_same p (q ∷ qs) = by_turn (placed_same p qs) (nat_le p.positionid q.positionid)
   where
-    by_turn : IsPermutation (placed p qs) (p ∷ qs) → (b : Bool) → IsPermutation (if b then p ∷ q ∷ qs else q ∷ placed p qs) (p ∷ q ∷ qs)
+    by_turn : IsPermutation (position_placed p qs) (p ∷ qs) → (b : Bool) → IsPermutation (if b then p ∷ q ∷ qs else q ∷ position_placed p qs) (p ∷ q ∷ qs)
     by_turn more true = IsPermutation-refl (p ∷ q ∷ qs)
     by_turn more false =
-        IsPermutation-trans _ _ _ (IsPermutation-cons q (placed p qs) (p ∷ qs) more)
+        IsPermutation-trans _ _ _ (IsPermutation-cons q (position_placed p qs) (p ∷ qs) more)
         (IsPermutation-append_left qs (q ∷ p ∷ []) (p ∷ q ∷ []) (IsPermutation-append_comm (q ∷ []) (p ∷ [])))
 
 by_number_same : (ps : List OrderPos) → IsPermutation (by_positionid ps) ps
 by_number_same [] = IsPermutation-refl []
 by_number_same (p ∷ ps) = IsPermutation-trans _ _ _ (placed_same p (by_positionid ps)) (IsPermutation-cons p (by_positionid ps) ps (by_number_same ps))
 
-pub exported_same : (lists : Lists) → IsPermutation (exported lists) (flat_map (λ o. map (export_row lists o) (positions_of o.id lists)) lists.orders)
+pub exported_same : (lists : Lists) → IsPermutation (rows_exported lists) (flat_map (λ o. map (export_row lists o) (positions_of o.id lists)) lists.orders)
 exported_same lists =
     IsPermutation-flat_map_each (rows_of_order lists) (λ o. map (export_row lists o) (positions_of o.id lists))
     (λ o. IsPermutation-map (export_row lists o) _ _ (by_number_same (positions_of o.id lists))) lists.orders
@@ -98,7 +98,7 @@ module _ (lists : Lists) where
   blocks k (o ∷ os) h all =
       order_weaker key (o.id * 512 + 1) (k * 512) _ (omega (arith, h.0)) (block o 1 (by_positionid (positions_of o.id lists)) _ all.0.counted (omega (arith, all.0.few, same_length (positions_of o.id lists))) (blocks (o.id + 1) os h.1 all.1))
 
-  pub exported_rise : AreInOrder (λ o. o.id) lists.orders → AllHavePositions lists.orders lists.positions → AreInOrder key (exported lists)
+  pub exported_rise : AreInOrder (λ o. o.id) lists.orders → AllHavePositions lists.orders lists.positions → AreInOrder key (rows_exported lists)
   exported_rise h all = blocks 0 lists.orders h all
 
   near_block : (o : Order) (n : ℕ) (ps : List OrderPos) (rest : List ExportRow) → CountFrom n ps → n + length ps ≤ 512 → AllByRecursion IsNear rest → AllByRecursion IsNear (map (export_row lists o) ps ++ rest)
@@ -109,7 +109,7 @@ module _ (lists : Lists) where
   near_blocks [] all = tt
   near_blocks (o ∷ os) all = near_block o 1 (by_positionid (positions_of o.id lists)) _ all.0.counted (omega (arith, all.0.few, same_length (positions_of o.id lists))) (near_blocks os all.1)
 
-  pub exported_near : AllHavePositions lists.orders lists.positions → AllByRecursion IsNear (exported lists)
+  pub exported_near : AllHavePositions lists.orders lists.positions → AllByRecursion IsNear (rows_exported lists)
   exported_near all = near_blocks lists.orders all
 
 -- ---- what is sorted by both, and has no two of one order and number, rises

@@ -26,7 +26,7 @@ use Rattle.model_invariant.specs.Sound.{IsSound}
 use Rattle.file_meaning.specs.Stands.{Stand}
 use Rattle.model_export.specs.declared.row.ExportRow.{ExportRow}
 use Rattle.model_export.specs.declared.sink.SinkFault.{SinkFault}
-use Rattle.model_export.specs.Exported.{exported}
+use Rattle.model_export.specs.Exported.{rows_exported}
 use Rattle.app_export.specs.Cells.{cells}
 use Rattle.file_schema.specs.declared.error.RowError.{RowError}
 use Rattle.app_export.specs.declared.positions.WalkError.{WalkError}
@@ -118,19 +118,19 @@ module _ (old : Connected) (known : old.now.schema ≡ schema) where
   goes_on o rows h = begins_shown joined_text [] old old rows h (unchanged old o) (λ c db it source. subst (λ k. EndsIn k db (timed [] c.formats it.now)) (sym (command_of c it.is)) tt)
 
 module _ (old new : Connected) (known : old.now.schema ≡ schema) (t : Tables) (held : Holds old.now.trees t) (shop : ShopRow) (s : State) (ks : List Kept) (st : Stand shop t s ks) (so : IsSound s) where
-  all_are : (other : Connected) (rows : List Row) → Shown joined_text [] old other rows → rows ≡ map cells (exported s.lists)
+  all_are : (other : Connected) (rows : List Row) → Shown joined_text [] old other rows → rows ≡ map cells (rows_exported s.lists)
   all_are other rows h = answers old.now.trees t held shop s ks st so old.now refl rows (read old known other rows h)
 
-  front_is : IsTrue old.is_open → (es : List ExportRow) (rows : List Row) → rows ≡ map cells es → Begins joined_text [] old rows → IsFrontOf es (exported s.lists)
+  front_is : IsTrue old.is_open → (es : List ExportRow) (rows : List Row) → rows ≡ map cells es → Begins joined_text [] old rows → IsFrontOf es (rows_exported s.lists)
   front_is o es rows are h =
       let whole = goes_on old known o rows h in
-      front_lines es (exported s.lists) whole.0 (ap (λ l. l ++ whole.0) (sym are) ∙ all_are old (rows ++ whole.0) whole.1)
+      front_lines es (rows_exported s.lists) whole.0 (ap (λ l. l ++ whole.0) (sym are) ∙ all_are old (rows ++ whole.0) whole.1)
 
   -- so are those before the last one
-  front_before : IsTrue old.is_open → (es : List ExportRow) (rows : List Row) (row : Row) → rows ≡ map cells es → Begins joined_text [] old (rows ++ row ∷ []) → IsFrontOf es (exported s.lists)
+  front_before : IsTrue old.is_open → (es : List ExportRow) (rows : List Row) (row : Row) → rows ≡ map cells es → Begins joined_text [] old (rows ++ row ∷ []) → IsFrontOf es (rows_exported s.lists)
   front_before o es rows row are h =
       let whole = goes_on old known o (rows ++ row ∷ []) h in
-      front_lines es (exported s.lists) (row ∷ whole.0) (ap (λ l. l ++ row ∷ whole.0) (sym are) ∙ sym (append_assoc rows (row ∷ []) whole.0) ∙ all_are old ((rows ++ row ∷ []) ++ whole.0) whole.1)
+      front_lines es (rows_exported s.lists) (row ∷ whole.0) (ap (λ l. l ++ row ∷ whole.0) (sym are) ∙ sym (append_assoc rows (row ∷ []) whole.0) ∙ all_are old ((rows ++ row ∷ []) ++ whole.0) whole.1)
 
 pub of_trees : (d : Database) (s : Connected) (t : Tables) → s.now ≡ d → Holds d.trees t → Holds s.now.trees t
 of_trees d s t same held = subst (λ (x : Database). Holds x.trees t) (sym same) held
@@ -139,22 +139,22 @@ pub of_schema : (d : Database) (s : Connected) → s.now ≡ d → d.schema ≡ 
 of_schema d s same known = ap (λ (x : Database). x.schema) same ∙ known
 
 module _ {W K : Type 0} (sink : W → K) (takes : K → ExportRow → K → Type 0) (refuses : K → ExportRow → SinkFault → K → Type 0) (old new : Connected) (before after : W) where
-  pub handed : TakesAll (ByLine sink takes) joined_text old new before after → HandsAll takes refuses (λ rows. OfOffice old new (λ lists. rows ≡ exported lists)) (sink before) (sink after)
+  pub handed : TakesAll (ByLine sink takes) joined_text old new before after → HandsAll takes refuses (λ rows. OfOffice old new (λ lists. rows ≡ rows_exported lists)) (sink before) (sink after)
   handed h =
       let l = lined sink takes before after h.rows h.took in
       record {
         rows = l.lines;
         took = l.took;
-        are = λ clean db at known t held shop s ks st so. same_lines l.lines (exported s.lists) (sym l.are ∙ all_are old new (of_schema db old at.now known) t (of_trees db old t at.now held) shop s ks st so new h.rows (h.shown clean));
+        are = λ clean db at known t held shop s ks st so. same_lines l.lines (rows_exported s.lists) (sym l.are ∙ all_are old new (of_schema db old at.now known) t (of_trees db old t at.now held) shop s ks st so new h.rows (h.shown clean));
       }
 
-  pub broken : BreaksOff (ByLine sink takes) joined_text old new before after → HandsAll takes refuses (λ rows. OfOffice old new (λ lists. IsFrontOf rows (exported lists))) (sink before) (sink after)
+  pub broken : BreaksOff (ByLine sink takes) joined_text old new before after → HandsAll takes refuses (λ rows. OfOffice old new (λ lists. IsFrontOf rows (rows_exported lists))) (sink before) (sink after)
   broken h =
       let l = lined sink takes before after h.rows h.took in
       record {
         rows = l.lines;
         took = l.took;
-        are = λ clean db at known t held shop s ks st so. either l.lines (exported s.lists) h.rows l.are
+        are = λ clean db at known t held shop s ks st so. either l.lines (rows_exported s.lists) h.rows l.are
             (λ begun. front_is old new (of_schema db old at.now known) t (of_trees db old t at.now held) shop s ks st so at.is_open l.lines h.rows l.are begun) (h.front clean);
       }
     where
@@ -164,7 +164,7 @@ module _ {W K : Type 0} (sink : W → K) (takes : K → ExportRow → K → Type
       either (e ∷ es) all rows are k (inr begun) = k begun
 
   pub refused : (fault : SinkFault) → TakesSome (ByLine sink takes) (λ k row n. StopsAt refuses (sink k) row (Sink fault) (sink n)) joined_text old new before after
-      → HandsUpTo takes refuses (λ rows. OfOffice old new (λ lists. IsFrontOf rows (exported lists))) (sink before) (sink after) fault
+      → HandsUpTo takes refuses (λ rows. OfOffice old new (λ lists. IsFrontOf rows (rows_exported lists))) (sink before) (sink after) fault
   refused fault h =
       let l = lined sink takes before h.mid h.rows h.took in
       let one = h.stopped in
@@ -179,7 +179,7 @@ module _ {W K : Type 0} (sink : W → K) (takes : K → ExportRow → K → Type
       }
 
   pub unread : (e : RowError) → TakesSome (ByLine sink takes) (λ k row n. StopsAt refuses (sink k) row (Rows e) (sink n)) joined_text old new before after
-      → HandsAll takes refuses (λ rows. OfOffice old new (λ lists. IsFrontOf rows (exported lists))) (sink before) (sink after)
+      → HandsAll takes refuses (λ rows. OfOffice old new (λ lists. IsFrontOf rows (rows_exported lists))) (sink before) (sink after)
   unread e h =
       let l = lined sink takes before h.mid h.rows h.took in
       record {
@@ -189,6 +189,6 @@ module _ {W K : Type 0} (sink : W → K) (takes : K → ExportRow → K → Type
       }
 
   pub some_of : (why : WalkError) → TakesSome (ByLine sink takes) (λ k row n. StopsAt refuses (sink k) row why (sink n)) joined_text old new before after
-      → HandsSome takes refuses (λ rows. OfOffice old new (λ lists. IsFrontOf rows (exported lists))) (sink before) (sink after) why
+      → HandsSome takes refuses (λ rows. OfOffice old new (λ lists. IsFrontOf rows (rows_exported lists))) (sink before) (sink after) why
   some_of (Sink fault) h = refused fault h
   some_of (Rows e) h = unread e h

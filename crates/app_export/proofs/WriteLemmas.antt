@@ -11,11 +11,11 @@ use Rattle.base_devices.proofs.ToldLemmas.{Adds-nil, Adds-append}
 use Rattle.web_http.specs.Written.{Page}
 use Rattle.web_cli.specs.Saying.{CountsCut}
 use Rattle.web_cli.specs.declared.fault.RunFault.{RunFault}
-use Rattle.model_export.specs.Exported.{exported}
+use Rattle.model_export.specs.Exported.{rows_exported}
 use Rattle.model_export.specs.declared.row.ExportRow.{ExportRow}
 use Rattle.model_export.specs.declared.sink.SinkFault.{SinkFault}
 use Rattle.model_export.specs.declared.sink.SinkFault.TheVariants.{Memory, Output}
-use Rattle.app_csv.specs.Handing.{Goes, HandsOn, IsReady, Stops, gathered}
+use Rattle.app_csv.specs.Handing.{Goes, HandsOn, IsReady, Stops, gathered_text}
 use Rattle.app_csv.specs.PositionLines.{header_line, positions_text, row_line}
 use Rattle.app_csv.specs.declared.positions.Lines.{Lines}
 use Rattle.app_export.specs.Faults.{IsOfMachine, fault_of_walk}
@@ -77,16 +77,16 @@ both_texts (x ∷ xs) ys = ap (λ (t : List ℕ). row_line x ++ t) (both_texts x
 
 module _ {K N : Type 0} (name : K → N) (lines : K → Lines) (page : K → Page) where
   abbrev pub Takes : K → ExportRow → K → Type 0
-  Takes old row new = (name new ≡ name old) × (IsReady (lines old) → IsReady (lines new) × Goes (row_line row) (gathered (lines old)) (gathered (lines new)) (page old) (page new))
+  Takes old row new = (name new ≡ name old) × (IsReady (lines old) → IsReady (lines new) × Goes (row_line row) (gathered_text (lines old)) (gathered_text (lines new)) (page old) (page new))
 
   abbrev pub Refuses : K → ExportRow → SinkFault → K → Type 0
-  Refuses old row fault new = (name new ≡ name old) × (IsReady (lines old) → Stops fault (gathered (lines old) ++ row_line row) (page old) (page new))
+  Refuses old row fault new = (name new ≡ name old) × (IsReady (lines old) → Stops fault (gathered_text (lines old) ++ row_line row) (page old) (page new))
 
   -- what the lines of these rows make of a sink
   record Taken (before after : K) (rows : List ExportRow) : Type 0 where
     same : name after ≡ name before
     ready : IsReady (lines after)
-    goes : Goes (lines_text rows) (gathered (lines before)) (gathered (lines after)) (page before) (page after)
+    goes : Goes (lines_text rows) (gathered_text (lines before)) (gathered_text (lines after)) (page before) (page after)
 
   taken : (before after : K) (rows : List ExportRow) → IsReady (lines before) → Took Takes before rows after → Taken before after rows
   taken before after [] ready t = record {
@@ -94,7 +94,7 @@ module _ {K N : Type 0} (name : K → N) (lines : K → Lines) (page : K → Pag
     ready = subst (λ (k : K). IsReady (lines k)) (sym t) ready;
     goes = (
       [],
-      append-nil (gathered (lines before)) ∙ sym (ap (λ (k : K). gathered (lines k)) t),
+      append-nil (gathered_text (lines before)) ∙ sym (ap (λ (k : K). gathered_text (lines k)) t),
       subst (λ (k : K). Adds (page before).taken [] (page k).taken) (sym t) (Adds-nil (page before).taken),
       ap (λ (k : K). (page k).failures) t,
     );
@@ -105,7 +105,7 @@ module _ {K N : Type 0} (name : K → N) (lines : K → Lines) (page : K → Pag
       record {
         same = rest.same ∙ step.0;
         ready = rest.ready;
-        goes = goes_then (row_line row) (lines_text rows) (gathered (lines before)) (gathered (lines mid)) (gathered (lines after)) (page before) (page mid) (page after) first.1 rest.goes;
+        goes = goes_then (row_line row) (lines_text rows) (gathered_text (lines before)) (gathered_text (lines mid)) (gathered_text (lines after)) (page before) (page mid) (page after) first.1 rest.goes;
       }
 
   -- it keeps its writer
@@ -115,20 +115,20 @@ module _ {K N : Type 0} (name : K → N) (lines : K → Lines) (page : K → Pag
   pub kept_some : (P : List ExportRow → Type 0) (fault : SinkFault) (before after : K) → IsReady (lines before) → HandsUpTo Takes Refuses P before after fault → name after ≡ name before
   kept_some P fault before after ready h = h.refused.0 ∙ (taken before h.mid h.rows ready h.took).same
 
-  module _ (old new : Connected) (rests : Rests old new) (crash : Survives old new (λ _. ⊥)) (before mid after : K) (ready : IsReady (lines before)) (names : gathered (lines before) ≡ header_line) where
+  module _ (old new : Connected) (rests : Rests old new) (crash : Survives old new (λ _. ⊥)) (before mid after : K) (ready : IsReady (lines before)) (names : gathered_text (lines before) ≡ header_line) where
     -- what was handed on, and what is gathered behind it, are the names and the lines
-    so_far : (end : K) (rows : List ExportRow) (t : Taken before end rows) → t.goes.0 ++ gathered (lines end) ≡ header_line ++ lines_text rows
+    so_far : (end : K) (rows : List ExportRow) (t : Taken before end rows) → t.goes.0 ++ gathered_text (lines end) ≡ header_line ++ lines_text rows
     so_far end rows t = sym t.goes.1 ∙ ap (λ (g : List ℕ). g ++ lines_text rows) names
 
     -- all lines were taken, and then what was gathered
-    pub exports_all : HandsAll Takes Refuses (λ rows. OfOffice old new (λ lists. rows ≡ exported lists)) before mid → (u : Unit {0}) → HandsOn (Ok u) (gathered (lines mid)) (page mid) (page after)
+    pub exports_all : HandsAll Takes Refuses (λ rows. OfOffice old new (λ lists. rows ≡ rows_exported lists)) before mid → (u : Unit {0}) → HandsOn (Ok u) (gathered_text (lines mid)) (page mid) (page after)
         → (text : List ℕ) × Exports old new text (page before) (page after) (Ok u)
     exports_all h u (more, still) =
         let t = taken before mid h.rows ready h.took in
         let (p, is, added, same) = t.goes in (
-          p ++ gathered (lines mid),
+          p ++ gathered_text (lines mid),
           record {
-            added = Adds-append (page before).taken (page mid).taken (page after).taken p (gathered (lines mid)) added more;
+            added = Adds-append (page before).taken (page mid).taken (page after).taken p (gathered_text (lines mid)) added more;
             counted = still ∙ same;
             written = λ clean db at known tables held shop s ks stand sound. so_far mid h.rows t ∙ ap (λ (rs : List ExportRow). header_line ++ lines_text rs) (h.are clean db at known tables held shop s ks stand sound);
             cause = λ clean db at known tables held fit. tt;
@@ -138,11 +138,11 @@ module _ {K N : Type 0} (name : K → N) (lines : K → Lines) (page : K → Pag
         )
 
     -- what was gathered wasn't handed on
-    pub exports_ungathered : (fault : SinkFault) → HandsAll Takes Refuses (λ rows. OfOffice old new (λ lists. rows ≡ exported lists)) before mid → HandsOn (Err fault) (gathered (lines mid)) (page mid) (page after)
+    pub exports_ungathered : (fault : SinkFault) → HandsAll Takes Refuses (λ rows. OfOffice old new (λ lists. rows ≡ rows_exported lists)) before mid → HandsOn (Err fault) (gathered_text (lines mid)) (page mid) (page after)
         → (text : List ℕ) × Exports old new text (page before) (page after) (Err (fault_of_walk (Sink fault)))
     exports_ungathered fault h stops =
         let t = taken before mid h.rows ready h.took in
-        let c = cut fault t.goes.0 (gathered (lines mid)) (page before) (page mid) (page after) t.goes.2 t.goes.3 stops in (
+        let c = cut fault t.goes.0 (gathered_text (lines mid)) (page before) (page mid) (page after) t.goes.2 t.goes.3 stops in (
           c.part,
           record {
             added = c.added;
@@ -158,13 +158,13 @@ module _ {K N : Type 0} (name : K → N) (lines : K → Lines) (page : K → Pag
         )
 
     -- a line wasn't taken
-    pub exports_some : (fault : SinkFault) → HandsUpTo Takes Refuses (λ rows. OfOffice old new (λ lists. IsFrontOf rows (exported lists))) before after fault
+    pub exports_some : (fault : SinkFault) → HandsUpTo Takes Refuses (λ rows. OfOffice old new (λ lists. IsFrontOf rows (rows_exported lists))) before after fault
         → (text : List ℕ) × Exports old new text (page before) (page after) (Err (fault_of_walk (Sink fault)))
     exports_some fault h =
         let t = taken before h.mid h.rows ready h.took in
-        let c = cut fault t.goes.0 (gathered (lines h.mid) ++ row_line h.row) (page before) (page h.mid) (page after) t.goes.2 t.goes.3 (h.refused.1 t.ready) in
-        let one : t.goes.0 ++ (gathered (lines h.mid) ++ row_line h.row) ≡ header_line ++ lines_text (h.rows ++ h.row ∷ []) =
-        sym (append_assoc t.goes.0 (gathered (lines h.mid)) (row_line h.row)) ∙ ap (λ (g : List ℕ). g ++ row_line h.row) (so_far h.mid h.rows t)
+        let c = cut fault t.goes.0 (gathered_text (lines h.mid) ++ row_line h.row) (page before) (page h.mid) (page after) t.goes.2 t.goes.3 (h.refused.1 t.ready) in
+        let one : t.goes.0 ++ (gathered_text (lines h.mid) ++ row_line h.row) ≡ header_line ++ lines_text (h.rows ++ h.row ∷ []) =
+        sym (append_assoc t.goes.0 (gathered_text (lines h.mid)) (row_line h.row)) ∙ ap (λ (g : List ℕ). g ++ row_line h.row) (so_far h.mid h.rows t)
         ∙ append_assoc header_line (lines_text h.rows) (row_line h.row)
         ∙ ap (λ (g : List ℕ). header_line ++ g) (ap (λ (g : List ℕ). lines_text h.rows ++ g) (sym (append-nil (row_line h.row))) ∙ sym (both_texts h.rows (h.row ∷ []))) in (
           c.part,
@@ -185,7 +185,7 @@ module _ {K N : Type 0} (name : K → N) (lines : K → Lines) (page : K → Pag
         )
 
     -- a row wasn't read
-    pub exports_unread : (error : RowError) → OfFitTables old new (IsOfMachine (fault_of_walk (Rows error))) → HandsAll Takes Refuses (λ rows. OfOffice old new (λ lists. IsFrontOf rows (exported lists))) before after
+    pub exports_unread : (error : RowError) → OfFitTables old new (IsOfMachine (fault_of_walk (Rows error))) → HandsAll Takes Refuses (λ rows. OfOffice old new (λ lists. IsFrontOf rows (rows_exported lists))) before after
         → (text : List ℕ) × Exports old new text (page before) (page after) (Err (fault_of_walk (Rows error)))
     exports_unread error cause h =
         let t = taken before after h.rows ready h.took in (
@@ -195,8 +195,8 @@ module _ {K N : Type 0} (name : K → N) (lines : K → Lines) (page : K → Pag
             counted = unread_counts error (page before).failures (page after).failures t.goes.3;
             written = λ clean db at known tables held shop s ks stand sound.
                 let front = h.are clean db at known tables held shop s ks stand sound in (
-                  gathered (lines after) ++ lines_text front.0,
-                  sym (append_assoc t.goes.0 (gathered (lines after)) (lines_text front.0)) ∙ ap (λ (g : List ℕ). g ++ lines_text front.0) (so_far after h.rows t)
+                  gathered_text (lines after) ++ lines_text front.0,
+                  sym (append_assoc t.goes.0 (gathered_text (lines after)) (lines_text front.0)) ∙ ap (λ (g : List ℕ). g ++ lines_text front.0) (so_far after h.rows t)
                       ∙ append_assoc header_line (lines_text h.rows) (lines_text front.0)
                       ∙ ap (λ (g : List ℕ). header_line ++ g) (sym (both_texts h.rows front.0) ∙ ap lines_text front.1),
                 );
@@ -206,7 +206,7 @@ module _ {K N : Type 0} (name : K → N) (lines : K → Lines) (page : K → Pag
           },
         )
 
-    pub exports_broken : (error : WalkError) → OfFitTables old new (IsOfMachine (fault_of_walk error)) → HandsSome Takes Refuses (λ rows. OfOffice old new (λ lists. IsFrontOf rows (exported lists))) before after error
+    pub exports_broken : (error : WalkError) → OfFitTables old new (IsOfMachine (fault_of_walk error)) → HandsSome Takes Refuses (λ rows. OfOffice old new (λ lists. IsFrontOf rows (rows_exported lists))) before after error
         → (text : List ℕ) × Exports old new text (page before) (page after) (Err (fault_of_walk error))
     exports_broken (Sink fault) cause h = exports_some fault h
     exports_broken (Rows error) cause h = exports_unread error cause h

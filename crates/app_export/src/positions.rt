@@ -4,7 +4,7 @@ ghost use Rattle.std.specs.Prelude.{◌≡◌, ◌≢◌, false, IfOk, IfErr, On
 ghost use Rattle.sqlite.specs.Held.{state};
 ghost use Rattle.file_rows.specs.Unread.{IsUnread};
 ghost use Rattle.model_export.specs.declared.row.ExportRow.{ExportRow};
-ghost use Rattle.model_export.specs.Exported.{exported};
+ghost use Rattle.model_export.specs.Exported.{rows_exported};
 ghost use Rattle.file_scan.specs.Rests.{Rests};
 ghost use Rattle.app_export.specs.Cells.{IsFitLine, cells};
 ghost use Rattle.app_export.specs.Faults.{IsOfMachine, fault_of_walk};
@@ -86,11 +86,11 @@ pub fn stream_positions<S: Alter, K: Sink, P: Progress>(
 ) -> Result<(), WalkError>
     requires { conn.old.in_transaction ≡ false }
     ensures all { OnOk result (HandsAll K.Sink.takes K.Sink.refuses (λ rows. OfOffice
-        (state S.Store conn.old) (state S.Store conn.new) (λ lists. rows ≡ exported lists))
+        (state S.Store conn.old) (state S.Store conn.new) (λ lists. rows ≡ rows_exported lists))
         walk.old.sink walk.new.sink) }
     ensures some { IfErr result (HandsSome K.Sink.takes K.Sink.refuses
         (λ rows. OfOffice (state S.Store conn.old) (state S.Store conn.new)
-        (λ lists. IsFrontOf rows (exported lists))) walk.old.sink walk.new.sink) }
+        (λ lists. IsFrontOf rows (rows_exported lists))) walk.old.sink walk.new.sink) }
     ensures cause { OfFitTables (state S.Store conn.old) (state S.Store conn.new)
         (IfErr result (λ e. IsOfMachine (fault_of_walk e))) }
     ensures rests { Rests (state S.Store conn.old) (state S.Store conn.new) }

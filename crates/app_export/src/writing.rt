@@ -1,7 +1,7 @@
 //! The order positions of a file, written as CSV while they are read.
 
 ghost use Rattle.std.specs.Prelude.{◌≡◌, false};
-ghost use Rattle.app_csv.specs.Handing.{IsReady, gathered};
+ghost use Rattle.app_csv.specs.Handing.{IsReady, gathered_text};
 ghost use Rattle.app_csv.specs.PositionLines.{header_line};
 ghost use Rattle.app_export.specs.Faults.{fault_of_walk};
 ghost use Rattle.app_export.specs.Written.{ExportsText};
@@ -42,7 +42,7 @@ fn write_into<S: Alter, W: Drain, P: Progress>(
 ) -> Result<(), RunFault>
     requires outside { connection.old.in_transaction ≡ false }
     requires ready { IsReady walk.old.sink.lines.now }
-    requires names { gathered walk.old.sink.lines.now ≡ header_line }
+    requires names { gathered_text walk.old.sink.lines.now ≡ header_line }
     ensures same { walk.new.sink.out.ghost_name ≡ walk.old.sink.out.ghost_name }
     ensures exported { OnPage W.Drain (ExportsText S.Store connection.old connection.new)
         walk.old.sink.out.now walk.new.sink.out.now result }

@@ -6,9 +6,9 @@ use Rattle.sqlite.specs.declared.connection.Connection.{Connection}
 use Rattle.base_values.specs.declared.answer.Answer.{Answer}
 use Rattle.base_values.specs.declared.answer.Answer.TheVariants.{Unavailable}
 use Rattle.web_connection.specs.declared.failure.Failure.TheVariants as failures
-use Rattle.office_deliveries.specs.Deliveries.{Delivery, Opening, told as told_in_list}
+use Rattle.office_deliveries.specs.Deliveries.{Delivery, Opening, answer_told}
 use Rattle.office_deliveries.specs.Histories.{IsRunning, Running, TellsIt, after_act}
-use Rattle.office_deliveries.specs.Shops.{IsAnswered, IsDecided, StandsFor, Views, delivered, executes, served}
+use Rattle.office_deliveries.specs.Shops.{IsAnswered, IsDecided, StandsFor, Views, arrival_delivered, executes, arrival_served}
 use Rattle.office_deliveries.specs.declared.arrival.Arrival.{Arrival}
 use Rattle.base_devices.specs.declared.device.Tick.{Tick}
 use Rattle.model_answers.specs.ShopView.{IsSame, ShopView}
@@ -33,7 +33,7 @@ module _ {T : Type 0} (words : Reply → Response) (command : Command) (tick : T
 
   abbrev Stands : Arrival → Answer → T → State → T → State → Type 0
   Stands a answer before s after t = tables.sure after → (p : Opening) (ds : List Delivery) → StandsFor words tables.holds before s p ds
-      → StandsFor words tables.holds after t p (ds ++ delivered a answer ∷ []) × (told_in_list words p ds (delivered a answer) ≡ answer)
+      → StandsFor words tables.holds after t p (ds ++ arrival_delivered a answer ∷ []) × (answer_told words p ds (arrival_delivered a answer) ≡ answer)
 
   abbrev Runs : Arrival → Answer → T → State → T → State → Type 0
   Runs a answer before s after t = tables.sure after → (r : Running) → IsRunning words tables.holds tables.may_leave before s r
@@ -41,12 +41,12 @@ module _ {T : Type 0} (words : Reply → Response) (command : Command) (tick : T
 
   abbrev Leaves : Arrival → T → State → T → Type 0
   Leaves a before s after = tables.sure after → (left : ShopView) → tables.may_leave after left → tables.may_leave before left
-      ⊎ ((v : ShopView) → Views tables.holds before s v → IsSame left (served words a v).0 × IsSound left.state)
+      ⊎ ((v : ShopView) → Views tables.holds before s v → IsSame left (arrival_served words a v).0 × IsSound left.state)
 
   -- what a crash may leave once it is told
   abbrev Settles : Arrival → Answer → T → State → T → Type 0
   Settles a answer before s after = tables.sure after → IsDecided answer ((v : ShopView) → Views tables.holds before s v → executes a v ≡ true
-      → (left : ShopView) → tables.may_leave after left → IsSame left (served words a v).0)
+      → (left : ShopView) → tables.may_leave after left → IsSame left (arrival_served words a v).0)
 
   -- the shop of tables and an office answered the arrival that the command is
   pub was_done : (organizer event : List ℕ) (before shop after given : T) (s of_shop t : State) (a : Arrival) (answer : Answer) (outcome : Result (List ℕ) RunFault)

@@ -14,7 +14,7 @@ use Rattle.file_rows.specs.Tables.{Holds}
 use Rattle.web_cli.specs.declared.fault.RunFault.{RunFault}
 use Rattle.web_cli.specs.declared.fault.RunFault.TheVariants as faults
 use Rattle.file_tables.specs.Begun.{HasToken, token_added}
-use Rattle.file_tables.specs.Tokens.{HasNoRoom, IsNumbered, head_after, house_with, next_one, raised}
+use Rattle.file_tables.specs.Tokens.{HasNoRoom, IsNumbered, head_after, house_with, next_one, token_raised}
 use Rattle.file_tables.specs.declared.error.TokenError.{TokenError}
 use Rattle.file_tables.specs.declared.error.TokenError.TheVariants as tokens
 use Rattle.file_scan.specs.Rests.{IsAt, IsOpenAt, Rests}
@@ -137,7 +137,7 @@ none_or_some (Some number) = inr (number, refl)
 
 -- what a crash leaves of a file that was opened, and whose tables may have got a token
 pub left_by : (db : Database) (head : ShopRow) (next : ℕ) (office : State) (digest : List ℕ) (old mid new : Connected) → Rests old mid → Survives old mid (λ _. ⊥)
-    → Survives mid new (MayBeWritten schema (λ (_ : Unit {0}). HasToken (raised head) (next_one head digest)) mid) → HasCleanDisk mid → HasCleanDisk new → IsAt db old → db.schema ≡ schema
+    → Survives mid new (MayBeWritten schema (λ (_ : Unit {0}). HasToken (token_raised head) (next_one head digest)) mid) → HasCleanDisk mid → HasCleanDisk new → IsAt db old → db.schema ≡ schema
     → (IsTrue mid.is_open → IsOpened db.trees head next office mid)
     → ((house : House) → KnowsWhileOpen head next mid house → (number : ℕ) → house.tokens digest ≡ Some number → Survives mid new (λ _. ⊥))
     → (trees : Trees) → new.may_leave trees → old.may_leave trees ⊎ HasNextToken db.trees digest trees
@@ -156,7 +156,7 @@ left_by db head next office digest old mid new rests first second cleared clean 
           office = office;
           stand = o.stand;
           is_new = is_new;
-          holds = subst (λ (t : Trees). Holds t (token_added (raised head) (next_one head digest) o.tables)) (sym written.is)
+          holds = subst (λ (t : Trees). Holds t (token_added (token_raised head) (next_one head digest) o.tables)) (sym written.is)
               (turned.holds o.tables (subst (λ (d : Database). Holds d.trees o.tables) (sym shown) o.held));
         })
         | inr has ↦ elim ((where_known (house_of_rows head o.tables.tokens) (o.knows o.tables o.held).now has.0 has.1).crash clean trees may) [

@@ -7,9 +7,9 @@ use Rattle.base_values.specs.declared.answer.Response.{Response}
 use Rattle.model_commands.specs.declared.replies.Reply.{Reply}
 use Rattle.model_commands.specs.declared.requests.Command.{Command}
 use Rattle.web_connection.specs.declared.failure.Failure.TheVariants as failures
-use Rattle.office_deliveries.specs.Deliveries.{Delivery, Opening, told as told_in_list}
+use Rattle.office_deliveries.specs.Deliveries.{Delivery, Opening, answer_told}
 use Rattle.office_deliveries.specs.Histories.{IsRunning, Running, after_act}
-use Rattle.office_deliveries.specs.Shops.{IsAnswered, IsDecided, StandsFor, Views, delivered, executes, served}
+use Rattle.office_deliveries.specs.Shops.{IsAnswered, IsDecided, StandsFor, Views, arrival_delivered, executes, arrival_served}
 use Rattle.office_deliveries.specs.declared.arrival.Arrival.{Arrival}
 use Rattle.office_deliveries.specs.declared.arrival.Request.TheVariants as requests
 use Rattle.base_devices.specs.declared.device.Tick.{Tick}
@@ -48,13 +48,13 @@ pub record Acts {T : Type 0} (words : Reply → Response) (command : Command) (t
   pub answered : tables.sure last.tables → (v : ShopView) → Views tables.holds first.tables first.state v
       → IsAnswered words (own_arrival command tick) v answer (λ w. Views tables.holds last.tables last.state w)
   pub stands : tables.sure last.tables → (p : Opening) (ds : List Delivery) → StandsFor words tables.holds first.tables first.state p ds
-      → let d = delivered (own_arrival command tick) answer in StandsFor words tables.holds last.tables last.state p (ds ++ d ∷ []) × (told_in_list words p ds d ≡ answer)
+      → let d = arrival_delivered (own_arrival command tick) answer in StandsFor words tables.holds last.tables last.state p (ds ++ d ∷ []) × (answer_told words p ds d ≡ answer)
   pub running : tables.sure last.tables → (r : Running) → IsRunning words tables.holds tables.may_leave first.tables first.state r
       → IsRunning words tables.holds tables.may_leave last.tables last.state (after_act words (own_arrival command tick) answer r)
   pub crash : tables.sure last.tables → (left : ShopView) → tables.may_leave last.tables left → tables.may_leave first.tables left
-      ⊎ ((v : ShopView) → Views tables.holds first.tables first.state v → IsSame left (served words (own_arrival command tick) v).0 × IsSound left.state)
+      ⊎ ((v : ShopView) → Views tables.holds first.tables first.state v → IsSame left (arrival_served words (own_arrival command tick) v).0 × IsSound left.state)
   pub settled : tables.sure last.tables → IsDecided answer ((v : ShopView) → Views tables.holds first.tables first.state v → executes (own_arrival command tick) v ≡ true
-      → (left : ShopView) → tables.may_leave last.tables left → IsSame left (served words (own_arrival command tick) v).0)
+      → (left : ShopView) → tables.may_leave last.tables left → IsSame left (arrival_served words (own_arrival command tick) v).0)
 
 -- from this desk the command is carried out at the tick that is read of the system, or none can be read, and nothing is done
 pub record ActsFrom {S : Type 0} (reads : Option Tick → Type 0) (words : Reply → Response) (command : Command) (tables : Meaning (SqlTables S)) (first : DeskView (SqlTables S)) (left : Connection S) (outcome : Result (List ℕ) RunFault) : Type 0 where

@@ -22,7 +22,7 @@ use Rattle.file_tables.specs.Shops.{HoldsWhileOpen, IsOfHouse, KnowsWhileOpen, h
 use Rattle.file_tables.specs.Known.{TablesKnow}
 use Rattle.file_tables.specs.declared.sql.SqlTables.{SqlTables}
 use Rattle.file_tables.specs.Made.{IsMade, first_shop}
-use Rattle.file_tables.specs.Tokens.{AddsNext, HasNoRoom, IsNumbered, head_after, house_with, next_one, raised}
+use Rattle.file_tables.specs.Tokens.{AddsNext, HasNoRoom, IsNumbered, head_after, house_with, next_one, token_raised}
 use Rattle.file_scan.specs.declared.error.OpenError.{OpenError}
 use Rattle.file_open.specs.Opened.{IsReason}
 use Rattle.web_cli.specs.declared.fault.RunFault.{RunFault}
@@ -77,7 +77,7 @@ pub record HasNextToken (db : Trees) (digest : List ℕ) (after : Trees) : Type 
   pub office : State
   pub stand : Stand head tables office (map (λ r. r.kept) tables.kept)
   pub is_new : number_of tables.tokens digest ≡ None
-  pub holds : Holds after (token_added (raised head) (next_one head digest) tables)
+  pub holds : Holds after (token_added (token_raised head) (next_one head digest) tables)
 
 -- for want of memory, or because the store refused a call or failed
 abbrev pub IsOfStore : RunFault → Type 0

@@ -5,7 +5,7 @@ ghost use Rattle.web_handler.specs.Streams.{DeskView, desk_with};
 ghost use Rattle.web_server.specs.Clock.{IsRead};
 ghost use Rattle.app_files.specs.Acting.{Acts, ActsFrom, own_arrival, told_of};
 ghost use Rattle.app_files.specs.Served.{desk_of};
-ghost use Rattle.app_files.specs.Stored.{stored};
+ghost use Rattle.app_files.specs.Stored.{stored_meaning};
 ghost use Rattle.web_arrivals.specs.DeskView.{trait_meaning};
 
 use crate::filed::{Filed, Opened, connection_of};
@@ -75,8 +75,8 @@ fn act_at<S: Alter + Drop, B: Dues + Drop, W: Wording + Drop>(
     command: Command,
 ) -> Filed<S, Body>
     ensures { (last : DeskView (SqlTables S))
-        × Acts (W.words wording) command tick (stored S.Store) (desk_of opened) last result.outcome
-        × (result.connection ≡ last.tables.connection) }
+        × Acts (W.words wording) command tick (stored_meaning S.Store)
+        (desk_of opened) last result.outcome × (result.connection ≡ last.tables.connection) }
 {
     let Opened { tables, office } = opened;
     let (tables, outcome) = act_over(alloc, tick, tables, office, wording, command);
@@ -96,7 +96,7 @@ pub(crate) fn act_opened<R: System, S: Alter + Drop, B: Dues + Drop, W: Wording 
     wording: W,
     command: Command,
 ) -> Filed<S, Body>
-    ensures { ActsFrom (IsRead R.shows R.gives) (W.words wording) command (stored S.Store)
+    ensures { ActsFrom (IsRead R.shows R.gives) (W.words wording) command (stored_meaning S.Store)
         (desk_of opened) result.connection result.outcome }
 {
     match read_tick(rt) {

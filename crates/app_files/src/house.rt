@@ -112,7 +112,7 @@ impl<
     ghost use Rattle.app_files.specs.Asked.{TellsOf};
     ghost use Rattle.app_files.specs.Served.{IsOpenedAndServed};
     ghost use Rattle.app_files.specs.Shelved.{IsGiven, IsMissing, IsShelved, OverFile, OverNewFile};
-    ghost use Rattle.app_files.specs.Stored.{stored};
+    ghost use Rattle.app_files.specs.Stored.{stored_meaning};
     ghost use Rattle.app_files.specs.Worked.{IsOpenedAndWorked};
 
     ghost made = { λ file organizer event outcome. OverNewFile S.Store F.stood F.gives F.refuses
@@ -123,11 +123,13 @@ impl<
 
     ghost served = { λ file addr most outcome. OverFile S.Store F.stood F.gives F.refuses
         (OrUnopened S.Store
-        (IsOpenedAndServed (IsRead R.shows R.gives) S.Store (stored S.Store) most)) file outcome };
+        (IsOpenedAndServed (IsRead R.shows R.gives) S.Store (stored_meaning S.Store) most)) file
+        outcome };
 
     ghost worked = { λ file outcome. OverFile S.Store F.stood F.gives F.refuses
-        (OrUnopened S.Store (IsOpenedAndWorked (IsRead R.shows R.gives) S.Store (stored S.Store)))
-        file outcome };
+        (OrUnopened S.Store
+        (IsOpenedAndWorked (IsRead R.shows R.gives) S.Store (stored_meaning S.Store))) file
+        outcome };
 
     ghost reported = { λ file report outcome. OverFile S.Store F.stood F.gives F.refuses
         (TellsOf S.Store report) file outcome };
@@ -139,7 +141,7 @@ impl<
 
     ghost imported = { λ file csv outcome. OverFile S.Store F.stood F.gives F.refuses
         (λ old left came. (source : Result _ RunFault) × F.held csv source × OrUnopened S.Store
-        (IsOpenedAndImported (IsRead R.shows R.gives) S.Store (stored S.Store) source)
+        (IsOpenedAndImported (IsRead R.shows R.gives) S.Store (stored_meaning S.Store) source)
         old left came) file outcome };
 
     fn make(

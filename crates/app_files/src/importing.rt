@@ -5,7 +5,7 @@ ghost use Rattle.app_files.specs.Came.{CameTo, OrUnopened};
 ghost use Rattle.web_server.specs.Clock.{IsRead};
 ghost use Rattle.app_files.specs.Imported.{AddsAll, AddsFrom, AddsNothing, IsOpenedAndImported};
 ghost use Rattle.app_files.specs.Served.{desk_of};
-ghost use Rattle.app_files.specs.Stored.{stored};
+ghost use Rattle.app_files.specs.Stored.{stored_meaning};
 ghost use Rattle.web_cli.specs.declared.fault.RunFault.TheVariants.{Memory};
 
 use crate::acting::act_opened;
@@ -30,7 +30,7 @@ fn add_vouchers<R: System, S: Alter + Drop, B: Dues + Drop>(
     opened: Opened<S, B>,
     vouchers: List<NewVoucher>,
 ) -> Filed<S, Body>
-    ensures { AddsAll (IsRead R.shows R.gives) (stored S.Store) vouchers
+    ensures { AddsAll (IsRead R.shows R.gives) (stored_meaning S.Store) vouchers
         (desk_of opened) result.connection result.outcome
         ⊎ AddsNothing Memory (desk_of opened) result.connection result.outcome }
 {
@@ -56,7 +56,7 @@ fn add_read<R: System + Console, S: Alter + Drop, B: Dues + Drop>(
     opened: Opened<S, B>,
     text: &[u8],
 ) -> Filed<S, Body>
-    ensures { AddsFrom (IsRead R.shows R.gives) (stored S.Store) (Ok text.now)
+    ensures { AddsFrom (IsRead R.shows R.gives) (stored_meaning S.Store) (Ok text.now)
         (desk_of opened) result.connection result.outcome }
 {
     match read_vouchers(alloc, text) {
@@ -78,7 +78,7 @@ fn import_opened<R: System + Console, S: Alter + Drop, B: Dues + Drop>(
     opened: Opened<S, B>,
     source: Result<Body, RunFault>,
 ) -> Filed<S, Body>
-    ensures { AddsFrom (IsRead R.shows R.gives) (stored S.Store) source
+    ensures { AddsFrom (IsRead R.shows R.gives) (stored_meaning S.Store) source
         (desk_of opened) result.connection result.outcome }
 {
     match source {
@@ -102,7 +102,7 @@ pub fn import_shop<R: System + Console, S: Alter + Drop>(
     source: Result<Body, RunFault>,
 ) -> Filed<S, Body>
     ensures { CameTo S.Store (OrUnopened S.Store
-        (IsOpenedAndImported (IsRead R.shows R.gives) S.Store (stored S.Store) source))
+        (IsOpenedAndImported (IsRead R.shows R.gives) S.Store (stored_meaning S.Store) source))
         connection result }
 {
     match open_shop(rt, alloc, connection) {

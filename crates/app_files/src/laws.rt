@@ -20,7 +20,7 @@ ghost use Rattle.model_answers.specs.House.{House};
 ghost use Rattle.model_answers.specs.ShopView.{ShopView};
 ghost use Rattle.app_csv.specs.VerdictLines.{verdict_lines};
 ghost use Rattle.office_deliveries.specs.Deliveries.{step};
-ghost use Rattle.office_deliveries.specs.Histories.{Crashed, Event, MayLeave, Running, after_act, event_of, opened};
+ghost use Rattle.office_deliveries.specs.Histories.{Crashed, Event, MayLeave, Running, after_act, event_of, running_from};
 ghost use Rattle.office_deliveries.specs.Shops.{AreKeyless};
 ghost use Rattle.web_handler.specs.Streams.{DeskView, IsOf, Serves, ServesRunning, desk_with, words_of};
 ghost use Rattle.file_open.specs.Found.{IsFound};
@@ -71,7 +71,7 @@ pub fn callers_go_on_after_a_crash<S: Alter, K: Ticks>(
         × Hall (AtTick K.reads (ServesRunning house)) came (seen_at first r) (seen_at end q) all
         × MayLeave (words_of house) q x × IsOf tables house (desk_with again.now name happening z)
         × IsRunningAs tables house (desk_with again.now name happening z)
-        (opened (words_of house) x) }
+        (running_from (words_of house) x) }
     ensures unharmed { (house : House) (r : Running) (came : ℕ) (all : Story)
         (first : Between (DeskView (SqlTables S))) (told : Option (List Tick))
         (organizer event : List ℕ) (s : State)
@@ -101,7 +101,7 @@ pub fn a_history_goes_on_after_a_crash<S: Alter, K: Ticks>(
         → IsOpenedAgain S.Store (state S.Store last.now.connection) (state S.Store fresh.now)
         (over again.now after) → (x : ShopView)
         × RunsSo tables house begun (es ++ Crashed ∷ []) (over again.now after)
-        (opened (words_of house) x) }
+        (running_from (words_of house) x) }
 {
     callers_go_on_after_a_crash::<S, K>(last, fresh, again);
 }

@@ -5,7 +5,7 @@ ghost use Rattle.web_cli.specs.Saying.{OnPage, TellsListening};
 ghost use Rattle.web_server.specs.Clock.{IsRead};
 ghost use Rattle.app_files.specs.Came.{CameTo};
 ghost use Rattle.app_files.specs.Served.{IsOpenedAndServed, IsSilent, LeadsFrom, StaysUnopened, desk_of};
-ghost use Rattle.app_files.specs.Stored.{stored};
+ghost use Rattle.app_files.specs.Stored.{stored_meaning};
 ghost use Rattle.web_http.specs.Written.{writer_page};
 
 use crate::filed::{Filed, Opened, connection_of};
@@ -37,7 +37,7 @@ fn serve_desk<
 ) -> Filed<S, ()>
     ensures said { OnPage W.Drain (TellsListening place.now.text.now)
         writer.old writer.new result.outcome }
-    ensures leads { LeadsFrom (IsRead R.shows R.gives) (stored S.Store)
+    ensures leads { LeadsFrom (IsRead R.shows R.gives) (stored_meaning S.Store)
         place.now.connections desk result.connection result.outcome }
 {
     let mut noted = Noted::new(log, desk);
@@ -64,7 +64,8 @@ fn serve_opened<
 ) -> Filed<S, ()>
     ensures said { OnPage W.Drain (TellsListening place.now.text.now)
         writer.old writer.new result.outcome }
-    ensures leads { LeadsFrom (IsRead R.shows R.gives) (stored S.Store) place.now.connections
+    ensures leads { LeadsFrom (IsRead R.shows R.gives)
+        (stored_meaning S.Store) place.now.connections
         (desk_of opened) result.connection result.outcome }
 {
     match HouseWords::new(alloc, opened.office.organizer(), opened.office.event()) {
@@ -99,7 +100,7 @@ pub fn serve_shop<
     ensures said { OnPage W.Drain (TellsListening place.now.text.now)
         writer.old writer.new result.outcome }
     ensures served { CameTo S.Store (IsOpenedAndServed (IsRead R.shows R.gives) S.Store
-        (stored S.Store) place.now.connections) connection result
+        (stored_meaning S.Store) place.now.connections) connection result
         ⊎ (CameTo S.Store (StaysUnopened S.Store) connection result
         × IsSilent (writer_page W.Drain writer.old) (writer_page W.Drain writer.new)) }
 {

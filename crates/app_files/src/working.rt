@@ -2,7 +2,7 @@
 
 ghost use Rattle.web_server.specs.Clock.{IsRead};
 ghost use Rattle.app_files.specs.Came.{CameTo, OrUnopened};
-ghost use Rattle.app_files.specs.Stored.{stored};
+ghost use Rattle.app_files.specs.Stored.{stored_meaning};
 ghost use Rattle.app_files.specs.Worked.{IsOpenedAndWorked};
 
 use crate::acting::act_opened;
@@ -26,7 +26,8 @@ pub fn work_shop<R: System + Console, S: Alter + Drop>(
     connection: Connection<S>,
 ) -> Filed<S, Body>
     ensures { CameTo S.Store (OrUnopened S.Store
-        (IsOpenedAndWorked (IsRead R.shows R.gives) S.Store (stored S.Store))) connection result }
+        (IsOpenedAndWorked (IsRead R.shows R.gives) S.Store (stored_meaning S.Store))) connection
+        result }
 {
     match open_shop(rt, alloc, connection) {
         Ok(opened) => act_opened(rt, alloc, opened, WorkWords, Command::Periodic),

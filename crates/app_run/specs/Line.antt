@@ -8,7 +8,7 @@ use Rattle.web_cli.specs.declared.ended.LineEnd.TheVariants as ends
 use Rattle.web_cli.specs.declared.fault.RunFault.{RunFault}
 use Rattle.web_cli.specs.declared.fault.RunFault.TheVariants as faults
 use Rattle.web_cli.specs.declared.files.HouseFiles.{Ghosts}
-use Rattle.web_cli.specs.Asked.{Asked, adds, asked, exports, imports, makes, migrates, none, plain_words, reports, runs, serves, works}
+use Rattle.web_cli.specs.Asked.{Asked, adds, asked_for, exports, imports, makes, migrates, none, plain_words, reports, runs, serves, works}
 use Rattle.web_cli.specs.Line.{end_of_line, end_of_run}
 use Rattle.web_cli.specs.declared.values.Report.{Report}
 use Rattle.web_cli.specs.declared.values.Report.TheVariants.{Version}
@@ -55,4 +55,4 @@ Does files (none reasons) old new ended = (reason : ErrorKind) × IsAmong reason
 
 -- what these words ask for is done, or there is no memory to read them, and then nothing is read and nothing written
 abbrev pub Ran : {F : Type 0} → Ghosts F → List Text → Ports → Ports → LineEnd → Type 0
-Ran files words old new ended = Does files (asked (plain_words words)) old new ended ⊎ ((ended ≡ ends.Failed faults.Memory) × (new ≡ old))
+Ran files words old new ended = Does files (asked_for (plain_words words)) old new ended ⊎ ((ended ≡ ends.Failed faults.Memory) × (new ≡ old))

@@ -8,7 +8,9 @@ use base_devices::Drain;
 use base_values::{Body, is_slug};
 use itoa::Buffer;
 use std::alloc::Global;
-use web_cli::{HouseFiles, Place, Report, RunFault, ServeLine, is_token, said, say, serve_values};
+use web_cli::{
+    HouseFiles, Place, Report, RunFault, ServeLine, end_said, is_token, say, serve_values,
+};
 use web_http::write_all;
 
 // Whether both are short names.
@@ -34,7 +36,7 @@ pub fn make_shop<F: HouseFiles, W: Drain>(
         return Err(RunFault::Argument);
     }
     match files.make(alloc, file, organizer, event) {
-        Ok(()) => said(say(writer, b"ready", b"")),
+        Ok(()) => end_said(say(writer, b"ready", b"")),
         Err(fault) => Err(fault),
     }
 }
@@ -56,7 +58,7 @@ pub fn add_token<F: HouseFiles, W: Drain>(
     match files.add_token(alloc, file, token) {
         Ok(number) => {
             let mut buffer = Buffer::new();
-            said(say(writer, b"token ", buffer.format(number).as_bytes()))
+            end_said(say(writer, b"token ", buffer.format(number).as_bytes()))
         }
         Err(fault) => Err(fault),
     }
@@ -95,7 +97,7 @@ pub fn work_shop<F: HouseFiles, W: Drain>(
     ensures { OnPage W.Drain (WorksFile F.worked file.now) writer.old writer.new result }
 {
     match files.work(alloc, file) {
-        Ok(done) => said(say(writer, done.as_slice(), b"")),
+        Ok(done) => end_said(say(writer, done.as_slice(), b"")),
         Err(fault) => Err(fault),
     }
 }
@@ -105,7 +107,7 @@ fn tell<W: Drain>(writer: &mut W, came: Result<Body, RunFault>) -> Result<(), Ru
     ensures { OnPage W.Drain (Tells (λ text. text) came) writer.old writer.new result }
 {
     match came {
-        Ok(text) => said(write_all(writer, text.as_slice())),
+        Ok(text) => end_said(write_all(writer, text.as_slice())),
         Err(fault) => Err(fault),
     }
 }

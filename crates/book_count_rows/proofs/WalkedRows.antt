@@ -31,7 +31,7 @@ use Rattle.book_tally.specs.Amounts.{nothing, plus}
 use Rattle.book_tally.proofs.AmountLemmas.{same_usage as same_amounts, alone as none_more}
 use Rattle.book_count_rows.specs.Due.{due_quotas}
 use Rattle.book_count_rows.specs.Told.{AreOrdered, Passage, has_count, has_voucher, quota_told, voucher_told, gone_told, told_if, told_unless}
-use Rattle.book_count_rows.specs.Walked.{quotas_by, quota_with, quota_after, shifted, same_as, told_by_shift, told_at, voucher_by_shift, voucher_told_by, gone_told_by}
+use Rattle.book_count_rows.specs.Walked.{quotas_by, quota_with, quota_after, usage_shifted, same_as, told_by_shift, told_at, voucher_by_shift, voucher_told_by, gone_told_by}
 use Rattle.book_count_rows.proofs.Absent.{absent_both, alone, absent_none}
 use Rattle.book_count_rows.proofs.Ordered.{ordered_after}
 use Rattle.book_count_rows.proofs.Picked.{own_id, chosen}
@@ -49,9 +49,9 @@ found_stands id cat q found = ap (λ k. quota_at k cat) (key-row_at (λ (r : Quo
 -- ---- usages, count by count
 
 -- what came, without what went, is what is used afterwards
-shifted_is : (u v : Usage) (o : Option QuotaShift) → plus u (gone_by o) ≡ plus v (come_by o) → shifted v o ≡ u
+shifted_is : (u v : Usage) (o : Option QuotaShift) → plus u (gone_by o) ≡ plus v (come_by o) → usage_shifted v o ≡ u
 shifted_is u v o e =
-    same_amounts (shifted v o) u
+    same_amounts (usage_shifted v o) u
     (omega (arith, ap (λ (w : Usage). w.paid) e))
     (omega (arith, ap (λ (w : Usage). w.pending) e))
     (omega (arith, ap (λ (w : Usage). w.blocked) e))
@@ -126,7 +126,7 @@ module _ (state : State) (changes : List Change) (next : NextIds) (at : ℕ) (pa
   one_quota : (id : ℕ) (o : Option Quota) → quota_at id after.catalogue ≡ o → told_if (told_by_shift state at quotas) o ≡ told_if (quota_told both) o
   one_quota id None found = refl
   one_quota id (Some q) found =
-      let usage : shifted (usage_of before at q) (quota_shift_at q.id quotas) ≡ usage_of after at q = shifted_is (usage_of after at q) (usage_of before at q) (quota_shift_at q.id quotas) (are.quotas q (found_stands id after.catalogue q found)) in
+      let usage : usage_shifted (usage_of before at q) (quota_shift_at q.id quotas) ≡ usage_of after at q = shifted_is (usage_of after at q) (usage_of before at q) (quota_shift_at q.id quotas) (are.quotas q (found_stands id after.catalogue q found)) in
       ap (λ (u : Usage). told_unless (has_count state (record { quota = q.id; usage = u })) (record { quota = q.id; usage = u })) usage
 
   each_quota : (ids : List ℕ) → flat_map (told_at state changes at quotas) ids ≡ flat_map (λ id. told_if (quota_told both) (quota_at id after.catalogue)) ids
@@ -284,8 +284,8 @@ module _ (state : State) (order : AreOrdered state.lists) (at : ℕ) (quotas : L
   known_has usage None found = had_none state (record { quota = q.id; usage = usage }) state.lists.catalogue refl order.quotas found
   known_has usage (Some old) found = had_some state (record { quota = q.id; usage = usage }) state.lists.catalogue refl order.quotas old state.moment (usage_of state.lists state.moment old) (same_usage usage (usage_of state.lists state.moment old)) found refl refl refl
 
-  pub told_is : (base usage : Usage) (shift : Option QuotaShift) (had : Option Usage) → base ≡ usage_of state.lists at q → shift ≡ quota_shift_at q.id quotas → usage ≡ shifted base shift → had ≡ option_map (usage_of state.lists state.moment) (quota_at q.id state.lists.catalogue) → told_unless (same_as usage had) (record { quota = q.id; usage = usage }) ≡ told_by_shift state at quotas q
+  pub told_is : (base usage : Usage) (shift : Option QuotaShift) (had : Option Usage) → base ≡ usage_of state.lists at q → shift ≡ quota_shift_at q.id quotas → usage ≡ usage_shifted base shift → had ≡ option_map (usage_of state.lists state.moment) (quota_at q.id state.lists.catalogue) → told_unless (same_as usage had) (record { quota = q.id; usage = usage }) ≡ told_by_shift state at quotas q
   told_is base usage shift had base_is shift_is usage_is had_is =
-      let count : usage ≡ shifted (usage_of state.lists at q) (quota_shift_at q.id quotas) = usage_is ∙ ap (λ (u : Usage). shifted u shift) base_is ∙ ap (shifted (usage_of state.lists at q)) shift_is in
+      let count : usage ≡ usage_shifted (usage_of state.lists at q) (quota_shift_at q.id quotas) = usage_is ∙ ap (λ (u : Usage). usage_shifted u shift) base_is ∙ ap (usage_shifted (usage_of state.lists at q)) shift_is in
       ap (λ b. told_unless b (record { quota = q.id; usage = usage })) (ap (same_as usage) had_is ∙ known_has usage (quota_at q.id state.lists.catalogue) refl)
       ∙ ap (λ (u : Usage). told_unless (has_count state (record { quota = q.id; usage = u })) (record { quota = q.id; usage = u })) count

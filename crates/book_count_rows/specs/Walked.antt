@@ -39,8 +39,8 @@ abbrev pub less : Usage → Usage → Usage
 less a b = record { paid = a.paid - b.paid; pending = a.pending - b.pending; blocked = a.blocked - b.blocked; carts = a.carts - b.carts; waiting = a.waiting - b.waiting; exited = a.exited - b.exited }
 
 -- a usage, with what came and without what went
-abbrev pub shifted : Usage → Option QuotaShift → Usage
-shifted usage shift = less (plus usage (come_by shift)) (gone_by shift)
+abbrev pub usage_shifted : Usage → Option QuotaShift → Usage
+usage_shifted usage shift = less (plus usage (come_by shift)) (gone_by shift)
 
 -- it is a usage that was known
 abbrev pub same_as : Usage → Option Usage → Bool
@@ -53,7 +53,7 @@ used_now state quota = usage_of state.lists state.moment quota
 
 -- the count of a quota at a moment, by the rows before changes and what these shift
 abbrev pub count_by_shift : State → ℕ → List QuotaShift → Quota → QuotaCount
-count_by_shift state at shifts quota = record { quota = quota.id; usage = shifted (usage_of state.lists at quota) (quota_shift_at quota.id shifts) }
+count_by_shift state at shifts quota = record { quota = quota.id; usage = usage_shifted (usage_of state.lists at quota) (quota_shift_at quota.id shifts) }
 
 -- it is told, unless it was the same before
 abbrev pub told_by_shift : State → ℕ → List QuotaShift → Quota → List QuotaCount

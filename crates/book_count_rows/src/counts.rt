@@ -1,7 +1,7 @@
 //! Which counts are to be written with changes.
 
 ghost use Rattle.std.specs.Prelude.{◌≡◌, ◌≤◌, IfOk};
-ghost use Rattle.model_rows.specs.Change.{applied, after_all};
+ghost use Rattle.model_rows.specs.Change.{changes_applied, after_all};
 ghost use Rattle.model_rows.specs.CountRows.{counts_after};
 ghost use Rattle.book_tally.specs.Shifts.{AreShifts};
 
@@ -31,7 +31,7 @@ pub fn counts_by_shifts<B: Dues>(
     requires shifts { AreShifts (B.state book.now).lists
         (after_all changes.now.list (B.state book.now).lists) at shifts.now }
     ensures { IfOk result (λ rows. rows
-        ≡ counts_after (B.state book.now) (applied changes.now at (B.state book.now))) }
+        ≡ counts_after (B.state book.now) (changes_applied changes.now at (B.state book.now))) }
 {
     ids_rise(book);
     let changes = changes.as_slice();

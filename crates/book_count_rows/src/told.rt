@@ -5,7 +5,7 @@ ghost use Rattle.std.specs.Option.{option_copied};
 ghost use Rattle.model_rows.specs.CountRows.{same_usage};
 ghost use Rattle.model_rows.specs.Usage.{redeemed, spent};
 ghost use Rattle.book_count_rows.specs.Told.{Adds, has_count, has_exits, has_voucher, told_unless};
-ghost use Rattle.book_count_rows.specs.Walked.{shifted, same_as};
+ghost use Rattle.book_count_rows.specs.Walked.{usage_shifted, same_as};
 
 use book_tally::QuotaShift;
 use book_usage::{Book, usage_of};
@@ -53,8 +53,8 @@ pub fn fitting(amount: u128) -> Result<u64, AllocError>
 }
 
 /// A usage, with what came by a shift and without what went, if there is one.
-pub fn shifted(usage: Usage, shift: Option<&QuotaShift>) -> Result<Usage, AllocError>
-    ensures { IfOk result (λ new. new ≡ shifted usage (option_copied shift.entry)) }
+pub fn usage_shifted(usage: Usage, shift: Option<&QuotaShift>) -> Result<Usage, AllocError>
+    ensures { IfOk result (λ new. new ≡ usage_shifted usage (option_copied shift.entry)) }
 {
     match shift {
         None => Ok(usage),
@@ -63,7 +63,7 @@ pub fn shifted(usage: Usage, shift: Option<&QuotaShift>) -> Result<Usage, AllocE
 }
 
 fn shifted_by(usage: Usage, shift: &QuotaShift) -> Result<Usage, AllocError>
-    ensures { IfOk result (λ new. new ≡ shifted usage (Some shift.now)) }
+    ensures { IfOk result (λ new. new ≡ usage_shifted usage (Some shift.now)) }
 {
     let come = &shift.come;
     let gone = &shift.gone;

@@ -14,7 +14,7 @@ ghost use Rattle.book_count_rows.specs.Told.{Adds, AreOrdered};
 ghost use Rattle.book_count_rows.specs.Walked.{quotas_by, quota_with, quota_after, told_by_shift, told_at, voucher_told_by, gone_told_by, used_now, in_order_prop};
 
 use crate::recounts::recount;
-use crate::told::{add_unless, has_voucher, moved, moved_cents, same_as, shifted};
+use crate::told::{add_unless, has_voucher, moved, moved_cents, same_as, usage_shifted};
 use base_sorted::{Ids, place_of};
 use base_values::Moment;
 use book_tally::{QuotaShift, Shifts, VoucherShift};
@@ -92,7 +92,7 @@ impl<'w, B: Book> Walk<'w, B> {
     {
         ids_rise(self.book);
         let known = self.known(quota);
-        let usage = shifted(known.base, shift_of(&self.shifts.quotas, quota.id))?;
+        let usage = usage_shifted(known.base, shift_of(&self.shifts.quotas, quota.id))?;
         let count = QuotaCount {
             quota: quota.id,
             usage,

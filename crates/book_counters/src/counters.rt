@@ -6,7 +6,7 @@ ghost use Rattle.model_catalogue.specs.CatalogueLists.{quota_at};
 ghost use Rattle.model_rows.specs.Lists.{empty};
 ghost use Rattle.model_rows.specs.Headroom.{held};
 ghost use Rattle.model_rows.specs.Usage.{redeemed, spent, usage_of};
-ghost use Rattle.model_rows.specs.Change.{applied};
+ghost use Rattle.model_rows.specs.Change.{changes_applied};
 ghost use Rattle.model_rows.specs.Weight.{weight};
 ghost use Rattle.book_usage.specs.Dues.{with_due_steps, counts_of_changes};
 ghost use Rattle.book_usage.specs.Limits.{most_listed, most_spent};
@@ -140,7 +140,7 @@ impl Counters {
     // Makes exactly these changes, at a moment, and counts all again.
     fn count_all(&mut self, changes: Changes, at: Moment)
         requires { weight changes.list ≤ self.old.room }
-        ensures { self.new.state ≡ applied changes at self.old.state }
+        ensures { self.new.state ≡ changes_applied changes at self.old.state }
     {
         count_again(
             &mut self.store,
@@ -158,7 +158,7 @@ impl Counters {
     pub fn apply_all(&mut self, changes: Changes, at: Moment)
         requires room { weight changes.list ≤ self.old.room }
         requires moment { self.old.state.moment ≤ at }
-        ensures { self.new.state ≡ applied changes at self.old.state }
+        ensures { self.new.state ≡ changes_applied changes at self.old.state }
     {
         if self.is_still(&changes, at) {
             self.put_next(changes.next(), at);
@@ -180,7 +180,7 @@ impl Counters {
         requires moment { self.old.state.moment ≤ at }
         requires counts { counts.now ≡ counts_of_changes changes at self.old.state }
         requires spared { list_all (spares_used self.old.state.lists) changes.list ≡ true }
-        ensures { self.new.state ≡ applied changes at self.old.state }
+        ensures { self.new.state ≡ changes_applied changes at self.old.state }
     {
         settle(
             &mut self.store,
@@ -200,7 +200,7 @@ impl Counters {
         requires room { weight changes.list ≤ self.old.room }
         requires moment { self.old.state.moment ≤ at }
         requires counts { counts.now ≡ counts_of_changes changes at self.old.state }
-        ensures { self.new.state ≡ applied changes at self.old.state }
+        ensures { self.new.state ≡ changes_applied changes at self.old.state }
     {
         if self.spares_used(&changes) {
             self.put_counts(changes, counts, at);

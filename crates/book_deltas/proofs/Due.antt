@@ -74,7 +74,8 @@ module _ (quota : Quota) (lists : Lists) (at later : ℕ) (le : at ≤ later) wh
   weigh_by cart (Some v) = weigh (is_live_cart later cart) (is_live_cart at cart) (is_in quota cart.product) v.block_quota (hits quota v) (is_live_voucher later v) (is_live_voucher at v) (still cart.expires) (ended v.valid_until)
 
   weigh_cart : (cart : CartPos) (name : Option ℕ)
-      → one (is_live_cart later cart && is_in quota cart.product && not (is_covered_by lists later quota name)) + one (has_lapsed cart && (is_live_cart at cart && is_in quota cart.product && not (is_covered_by lists at quota name))) ≡ one (is_live_cart at cart && is_in quota cart.product && not (is_covered_by lists at quota name)) + one ((is_live_cart later cart && is_in quota cart.product) && released_by lists.vouchers name)
+      → one (is_live_cart later cart && is_in quota cart.product && not (is_covered_by lists later quota name)) + one (has_lapsed cart && (is_live_cart at cart && is_in quota cart.product && not (is_covered_by lists at quota name)))
+      ≡ one (is_live_cart at cart && is_in quota cart.product && not (is_covered_by lists at quota name)) + one ((is_live_cart later cart && is_in quota cart.product) && released_by lists.vouchers name)
   weigh_cart cart None = weigh_by cart None
   weigh_cart cart (Some id) = weigh_by cart (voucher_at id lists)
 

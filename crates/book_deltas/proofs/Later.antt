@@ -18,7 +18,7 @@ use Rattle.model_rows.specs.Asked.{held_in}
 use Rattle.model_rows.specs.CameDue.{ends_between, is_due_cart, is_due_voucher, is_due_if, names_due_by, names_due, naming_due}
 use Rattle.book_deltas.specs.Names.{passes_if, names_one}
 use Rattle.book_deltas.specs.Later.{Stands, release_if, free_if, naming_if}
-use Rattle.book_deltas.specs.Shifts.{moved, released, freed, lapsed, time_shift}
+use Rattle.book_deltas.specs.Shifts.{count_moved, blocks_released, carts_freed, carts_lapsed, time_shift}
 use Rattle.book_deltas.proofs.Due.{has_lapsed, has_released, released_if, released_by, is_freed, carts_later, blocked_later}
 use Rattle.book_indexes.proofs.EntryLemmas.{sums_like}
 use Rattle.book_deltas.proofs.ByName.{sum_by_name}
@@ -122,8 +122,8 @@ module _ (quota : Quota) (lists : Lists) (from to : ℕ) (le : from ≤ to) wher
       → released ≡ sum_by (λ v. if is_due_voucher from to v then release_if lists quota (Some v) else 0) lists.vouchers
       → freed ≡ sum_by (λ v. if is_due_voucher from to v then free_if lists to quota (Some v) else 0) lists.vouchers
       → lapsed ≡ count_by (λ c. is_due_cart from to c && cart_counts lists from quota c) lists.carts
-      → blocked ≡ moved (usage_of lists from quota).blocked 0 released
-      → carts ≡ moved (usage_of lists from quota).carts freed lapsed
+      → blocked ≡ count_moved (usage_of lists from quota).blocked 0 released
+      → carts ≡ count_moved (usage_of lists from quota).carts freed lapsed
       → record (usage_of lists from quota) { blocked = blocked; carts = carts } ≡ usage_of lists to quota
   unfolding usage_of
   usage_later kept blocked carts released freed lapsed small r f l b n =
@@ -136,4 +136,4 @@ module _ (quota : Quota) (lists : Lists) (from to : ℕ) (le : from ≤ to) wher
   time_is kept usage is fits =
       let small : (usage_of lists from quota).blocked ≤ 18446744073709551615 = omega (arith, fits, ap (λ (u : Usage). u.blocked) is) in
       ap (time_shift lists from to quota) is
-      ∙ usage_later kept (moved (usage_of lists from quota).blocked 0 (released lists from to quota)) (moved (usage_of lists from quota).carts (freed lists from to quota) (lapsed lists from to quota)) (released lists from to quota) (freed lists from to quota) (lapsed lists from to quota) small refl refl refl refl refl
+      ∙ usage_later kept (count_moved (usage_of lists from quota).blocked 0 (blocks_released lists from to quota)) (count_moved (usage_of lists from quota).carts (carts_freed lists from to quota) (carts_lapsed lists from to quota)) (blocks_released lists from to quota) (carts_freed lists from to quota) (carts_lapsed lists from to quota) small refl refl refl refl refl

@@ -13,10 +13,10 @@ use Rattle.model_rows.specs.Lists.{Lists, order_at}
 use Rattle.model_rows.specs.Usage.{is_covered, has_none, is_released, stands_as}
 use Rattle.book_usage.specs.Shares.{cart_share, exited_share, status_share, waiting_share}
 use Rattle.book_deltas.specs.Turns.{position_shift}
-use Rattle.book_deltas.specs.Shifts.{map_beside, only, moved, cart_shift, waiting_shift}
+use Rattle.book_deltas.specs.Shifts.{map_beside, only, count_moved, cart_shift, waiting_shift}
 use Rattle.book_deltas.proofs.TouchedLemmas.{beside_alike}
 
-pub both : (n come gone : ℕ) → moved (moved n come 0) 0 gone ≡ moved n come gone
+pub both : (n come gone : ℕ) → count_moved (count_moved n come 0) 0 gone ≡ count_moved n come gone
 both n come gone = omega arith
 
 -- where a row isn't in the quota, nothing moves
@@ -39,7 +39,7 @@ no_cart lists at quota = refl
 
 cart_still : (lists : Lists) (at : ℕ) (come gone : Option CartPos) (quota : Quota) (usage : Usage) → cart_share lists at quota come ≡ 0 → cart_share lists at quota gone ≡ 0 → cart_shift lists at come gone quota usage ≡ usage
 cart_still lists at come gone quota usage a b =
-    let same : moved usage.carts (cart_share lists at quota come) (cart_share lists at quota gone) ≡ usage.carts = omega (arith, a, b) in
+    let same : count_moved usage.carts (cart_share lists at quota come) (cart_share lists at quota gone) ≡ usage.carts = omega (arith, a, b) in
     ap (λ (n : ℕ). record usage { carts = n }) same
 
 module _ (lists : Lists) (at : ℕ) (quotas : List Quota) (us : List Usage) where
@@ -63,7 +63,7 @@ no_entry quota = refl
 
 entry_still : (come gone : Option Waiting) (quota : Quota) (usage : Usage) → waiting_share quota come ≡ 0 → waiting_share quota gone ≡ 0 → waiting_shift come gone quota usage ≡ usage
 entry_still come gone quota usage a b =
-    let same : moved usage.waiting (waiting_share quota come) (waiting_share quota gone) ≡ usage.waiting = omega (arith, a, b) in
+    let same : count_moved usage.waiting (waiting_share quota come) (waiting_share quota gone) ≡ usage.waiting = omega (arith, a, b) in
     ap (λ (n : ℕ). record usage { waiting = n }) same
 
 module _ (quotas : List Quota) (us : List Usage) where
@@ -99,9 +99,9 @@ no_exit lists quota = refl
 
 position_still : (lists : Lists) (come gone : Option OrderPos) (quota : Quota) (usage : Usage) → ((test : Status → Bool) → status_share test lists quota come ≡ 0) → ((test : Status → Bool) → status_share test lists quota gone ≡ 0) → exited_share lists quota come ≡ 0 → exited_share lists quota gone ≡ 0 → position_shift lists come gone quota usage ≡ usage
 position_still lists come gone quota usage a b d e =
-    let paid : moved usage.paid (status_share is_paid lists quota come) (status_share is_paid lists quota gone) ≡ usage.paid = omega (arith, a is_paid, b is_paid) in
-    let pending : moved usage.pending (status_share is_pending lists quota come) (status_share is_pending lists quota gone) ≡ usage.pending = omega (arith, a is_pending, b is_pending) in
-    let exited : moved usage.exited (exited_share lists quota come) (exited_share lists quota gone) ≡ usage.exited = omega (arith, d, e) in
+    let paid : count_moved usage.paid (status_share is_paid lists quota come) (status_share is_paid lists quota gone) ≡ usage.paid = omega (arith, a is_paid, b is_paid) in
+    let pending : count_moved usage.pending (status_share is_pending lists quota come) (status_share is_pending lists quota gone) ≡ usage.pending = omega (arith, a is_pending, b is_pending) in
+    let exited : count_moved usage.exited (exited_share lists quota come) (exited_share lists quota gone) ≡ usage.exited = omega (arith, d, e) in
     λ i. record usage { paid = paid i; pending = pending i; exited = exited i }
 
 module _ (lists : Lists) (quotas : List Quota) (us : List Usage) where

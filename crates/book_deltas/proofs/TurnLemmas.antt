@@ -14,7 +14,7 @@ use Rattle.model_rows.specs.declared.rows.Usage.{Usage}
 use Rattle.model_rows.specs.Conditions.{names}
 use Rattle.model_rows.specs.Lists.{Lists}
 use Rattle.model_rows.specs.Kept.{IsKept}
-use Rattle.book_deltas.specs.Turns.{turned, turn, turn_each}
+use Rattle.book_deltas.specs.Turns.{count_after_turn, turn, turn_each}
 use Rattle.book_indexes.proofs.EntryLemmas.{kept_at}
 
 turn_other : (up : Bool) (id : ℕ) (spent : ℕ → ℕ) (x : ℕ) → eqb x id ≡ false → turn up (Some id) spent x ≡ spent x
@@ -23,29 +23,29 @@ turn_other up id spent x e = by_test (eqb id x) (flip e)
     flip : eqb x id ≡ false → eqb id x ≡ false
     flip e = grind (arith, nat_tests, e)
 
-    by_test : (b : Bool) → b ≡ false → (if b then turned up (spent x) else spent x) ≡ spent x
+    by_test : (b : Bool) → b ≡ false → (if b then count_after_turn up (spent x) else spent x) ≡ spent x
     by_test true t = absurd (cc)
     by_test false t = refl
 
-turn_own : (up : Bool) (id : ℕ) (spent : ℕ → ℕ) (x : ℕ) → x ≡ id → turn up (Some id) spent x ≡ turned up (spent x)
+turn_own : (up : Bool) (id : ℕ) (spent : ℕ → ℕ) (x : ℕ) → x ≡ id → turn up (Some id) spent x ≡ count_after_turn up (spent x)
 turn_own up id spent x e = by_test (eqb id x) (own e)
   where
     own : x ≡ id → eqb id x ≡ true
     own e = grind (arith, nat_tests, e)
 
-    by_test : (b : Bool) → b ≡ true → (if b then turned up (spent x) else spent x) ≡ turned up (spent x)
+    by_test : (b : Bool) → b ≡ true → (if b then count_after_turn up (spent x) else spent x) ≡ count_after_turn up (spent x)
     by_test true t = refl
     by_test false t = absurd (cc)
 
 -- the uses that are kept beside the vouchers, where one of them turns
 module _ (up : Bool) (id : ℕ) (spent : ℕ → ℕ) where
   -- a voucher that stands
-  pub spent_place : (vouchers : List Voucher) (i was new : ℕ) (rs spents : List ℕ) → AreInOrder (λ r. r.id) vouchers → IsPlace (λ r. r.id) vouchers id i → was ≡ get_or rs i was → new ≡ turned up was → spents ≡ set rs i new → rs ≡ map (λ v. spent v.id) vouchers → spents ≡ map (λ v. turn up (Some id) spent v.id) vouchers
+  pub spent_place : (vouchers : List Voucher) (i was new : ℕ) (rs spents : List ℕ) → AreInOrder (λ r. r.id) vouchers → IsPlace (λ r. r.id) vouchers id i → was ≡ get_or rs i was → new ≡ count_after_turn up was → spents ≡ set rs i new → rs ≡ map (λ v. spent v.id) vouchers → spents ≡ map (λ v. turn up (Some id) spent v.id) vouchers
   spent_place [] i was new rs spents order place was_is new_is spents_is is = absurd (omega (arith, place.in_range))
   spent_place (v ∷ vs) i was new rs spents order place was_is new_is spents_is is =
       let had : was ≡ spent id = was_is ∙ kept_at (λ r. r.id) spent (v ∷ vs) rs id i was is place in
       let own : (get_or (v ∷ vs) i v).id ≡ id = place.has_id v in
-      let has : new ≡ turn up (Some id) spent (get_or (v ∷ vs) i v).id = new_is ∙ ap (turned up) (had ∙ ap spent (sym own)) ∙ sym (turn_own up id spent (get_or (v ∷ vs) i v).id own) in
+      let has : new ≡ turn up (Some id) spent (get_or (v ∷ vs) i v).id = new_is ∙ ap (count_after_turn up) (had ∙ ap spent (sym own)) ∙ sym (turn_own up id spent (get_or (v ∷ vs) i v).id own) in
       spents_is ∙ rw is (ap (λ n. set (map (λ r. spent r.id) (v ∷ vs)) i n) has ∙ map_one (λ r. r.id) (λ r. spent r.id) (λ r. turn up (Some id) spent r.id) id (λ r e. turn_other up id spent r.id e) 0 (v ∷ vs) i v order place)
 
   -- one that doesn't
@@ -67,14 +67,14 @@ one_use x name = if names x name then 1 else 0
 pub up_one : (name : Option ℕ) (spent : ℕ → ℕ) (x n : ℕ) → spent x + one_use x name + n ≤ 18446744073709551615 → turn true name spent x ≡ spent x + one_use x name
 up_one name spent x n le = by_test (names x name) le
   where
-    by_test : (b : Bool) → spent x + (if b then 1 else 0) + n ≤ 18446744073709551615 → (if b then turned true (spent x) else spent x) ≡ spent x + (if b then 1 else 0)
+    by_test : (b : Bool) → spent x + (if b then 1 else 0) + n ≤ 18446744073709551615 → (if b then count_after_turn true (spent x) else spent x) ≡ spent x + (if b then 1 else 0)
     by_test true le = omega (arith, le)
     by_test false le = omega arith
 
 pub down_one : (name : Option ℕ) (spent : ℕ → ℕ) (x : ℕ) → turn false name spent x ≡ spent x - one_use x name
 down_one name spent x = by_test (names x name)
   where
-    by_test : (b : Bool) → (if b then turned false (spent x) else spent x) ≡ spent x - (if b then 1 else 0)
+    by_test : (b : Bool) → (if b then count_after_turn false (spent x) else spent x) ≡ spent x - (if b then 1 else 0)
     by_test true = refl
     by_test false = omega arith
 

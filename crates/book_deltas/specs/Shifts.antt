@@ -30,36 +30,36 @@ abbrev pub grown : ℕ → ℕ → ℕ
 grown count come = max count (min (count + come) 18446744073709551615)
 
 -- a count after some came, and some went
-abbrev pub moved : ℕ → ℕ → ℕ → ℕ
-moved count come gone = grown count come - gone
+abbrev pub count_moved : ℕ → ℕ → ℕ → ℕ
+count_moved count come gone = grown count come - gone
 
 -- a cart position comes, and one goes
 abbrev pub cart_shift : Lists → ℕ → Option CartPos → Option CartPos → Quota → Usage → Usage
-cart_shift lists at come gone quota usage = record usage { carts = moved usage.carts (cart_share lists at quota come) (cart_share lists at quota gone) }
+cart_shift lists at come gone quota usage = record usage { carts = count_moved usage.carts (cart_share lists at quota come) (cart_share lists at quota gone) }
 
 -- a waiting entry comes, and one goes
 abbrev pub waiting_shift : Option Waiting → Option Waiting → Quota → Usage → Usage
-waiting_shift come gone quota usage = record usage { waiting = moved usage.waiting (waiting_share quota come) (waiting_share quota gone) }
+waiting_shift come gone quota usage = record usage { waiting = count_moved usage.waiting (waiting_share quota come) (waiting_share quota gone) }
 
 -- what the vouchers blocked that came due
-abbrev pub released : Lists → ℕ → ℕ → Quota → ℕ
-released lists from to quota = sum_by (λ v. if is_due_voucher from to v then release_if lists quota (Some v) else 0) lists.vouchers
+abbrev pub blocks_released : Lists → ℕ → ℕ → Quota → ℕ
+blocks_released lists from to quota = sum_by (λ v. if is_due_voucher from to v then release_if lists quota (Some v) else 0) lists.vouchers
 
 -- the live cart positions that they covered
-abbrev pub freed : Lists → ℕ → ℕ → Quota → ℕ
-freed lists from to quota = sum_by (λ v. if is_due_voucher from to v then free_if lists to quota (Some v) else 0) lists.vouchers
+abbrev pub carts_freed : Lists → ℕ → ℕ → Quota → ℕ
+carts_freed lists from to quota = sum_by (λ v. if is_due_voucher from to v then free_if lists to quota (Some v) else 0) lists.vouchers
 
 -- the cart positions that counted, and came due
-abbrev pub lapsed : Lists → ℕ → ℕ → Quota → ℕ
-lapsed lists from to quota = count_by (λ c. is_due_cart from to c && cart_counts lists from quota c) lists.carts
+abbrev pub carts_lapsed : Lists → ℕ → ℕ → Quota → ℕ
+carts_lapsed lists from to quota = count_by (λ c. is_due_cart from to c && cart_counts lists from quota c) lists.carts
 
 -- time passes
 abbrev pub time_shift : Lists → ℕ → ℕ → Quota → Usage → Usage
 time_shift lists from to quota usage = record usage {
-  blocked = moved usage.blocked 0 (released lists from to quota);
-  carts = moved usage.carts (freed lists from to quota) (lapsed lists from to quota);
+  blocked = count_moved usage.blocked 0 (blocks_released lists from to quota);
+  carts = count_moved usage.carts (carts_freed lists from to quota) (carts_lapsed lists from to quota);
 }
 
 -- what one blocks that is redeemed so often comes, and what another blocks goes
 abbrev pub block_shift : ℕ → ℕ → Option Voucher → Option Voucher → Quota → Usage → Usage
-block_shift at spent come gone quota usage = record usage { blocked = moved usage.blocked (blocked_share at quota spent come) (blocked_share at quota spent gone) }
+block_shift at spent come gone quota usage = record usage { blocked = count_moved usage.blocked (blocked_share at quota spent come) (blocked_share at quota spent gone) }

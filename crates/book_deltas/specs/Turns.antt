@@ -6,16 +6,16 @@ use Rattle.model_rows.specs.declared.rows.Usage.{Usage}
 use Rattle.model_rows.specs.Conditions.{names, is_paid, is_pending}
 use Rattle.model_rows.specs.Lists.{Lists}
 use Rattle.book_usage.specs.Shares.{status_share, exited_share}
-use Rattle.book_deltas.specs.Shifts.{moved}
+use Rattle.book_deltas.specs.Shifts.{count_moved}
 
 -- one more, or one less
-abbrev pub turned : Bool → ℕ → ℕ
-turned true n = min (n + 1) 18446744073709551615
-turned false n = n - 1
+abbrev pub count_after_turn : Bool → ℕ → ℕ
+count_after_turn true n = min (n + 1) 18446744073709551615
+count_after_turn false n = n - 1
 
 -- one more or one less for the voucher of this name
 abbrev pub turn : Bool → Option ℕ → (ℕ → ℕ) → ℕ → ℕ
-turn up name spent x = if names x name then turned up (spent x) else spent x
+turn up name spent x = if names x name then count_after_turn up (spent x) else spent x
 
 -- one more or one less for the voucher of each of these names
 abbrev pub turn_each : Bool → List (Option ℕ) → (ℕ → ℕ) → ℕ → ℕ
@@ -25,9 +25,9 @@ turn_each up (name ∷ names) spent = turn_each up names (turn up name spent)
 -- an order position comes, and one goes
 abbrev pub position_shift : Lists → Option OrderPos → Option OrderPos → Quota → Usage → Usage
 position_shift lists come gone quota usage = record usage {
-  paid = moved usage.paid (status_share is_paid lists quota come) (status_share is_paid lists quota gone);
-  pending = moved usage.pending (status_share is_pending lists quota come) (status_share is_pending lists quota gone);
-  exited = moved usage.exited (exited_share lists quota come) (exited_share lists quota gone);
+  paid = count_moved usage.paid (status_share is_paid lists quota come) (status_share is_paid lists quota gone);
+  pending = count_moved usage.pending (status_share is_pending lists quota come) (status_share is_pending lists quota gone);
+  exited = count_moved usage.exited (exited_share lists quota come) (exited_share lists quota gone);
 }
 
 -- the voucher that it names

@@ -3,7 +3,7 @@
 ghost use Rattle.std.specs.Prelude.{◌≡◌, ◌≤◌, ◌&&◌, count_by, length, vec_capacity, Some, true, false};
 ghost use Rattle.base_sorted.specs.Tables.{AreInOrder};
 ghost use Rattle.model_rows.specs.CameDue.{is_due_cart};
-ghost use Rattle.model_rows.specs.Change.{changed};
+ghost use Rattle.model_rows.specs.Change.{change_applied};
 ghost use Rattle.model_rows.specs.Headroom.{held};
 ghost use Rattle.model_rows.specs.Lists.{cart_at};
 ghost use Rattle.book_store.specs.Walks.{one_if};
@@ -14,7 +14,7 @@ ghost use Rattle.book_deltas.specs.Beside.{Stays, StepsBeside};
 ghost use Rattle.book_deltas.specs.Held.{AreHeld, AreHeldNow, named_by};
 ghost use Rattle.book_deltas.specs.Turns.{turn};
 
-use crate::turns::{turned, vouchers};
+use crate::turns::{count_after_turn, vouchers};
 use base_sorted::place_of;
 use base_values::Moment;
 use book_store::Store;
@@ -37,7 +37,7 @@ fn turn_one(vouchers: &[Voucher], counts: &mut Vec<u64>, name: Option<u64>, up: 
     match place_of(vouchers, id) {
         Err(_) => {}
         Ok(at) => {
-            counts[at] = turned(counts[at], up);
+            counts[at] = count_after_turn(counts[at], up);
         }
     }
 }
@@ -45,7 +45,8 @@ fn turn_one(vouchers: &[Voucher], counts: &mut Vec<u64>, name: Option<u64>, up: 
 /// The numbers where a cart position is put.
 pub fn hold_put(store: &Store, holds: &mut Vec<u64>, row: &CartPos)
     requires { AreHeldNow store.now.state holds.old.items }
-    ensures held { AreHeldNow (changed (Change.PutCart row.now) store.now.state) holds.new.items }
+    ensures held { AreHeldNow
+        (change_applied (Change.PutCart row.now) store.now.state) holds.new.items }
     ensures stays { Stays holds.old holds.new }
 {
     store.known();
@@ -58,7 +59,8 @@ pub fn hold_put(store: &Store, holds: &mut Vec<u64>, row: &CartPos)
 /// The numbers where the cart position of an id is dropped.
 pub fn hold_drop(store: &Store, holds: &mut Vec<u64>, id: u64)
     requires { AreHeldNow store.now.state holds.old.items }
-    ensures held { AreHeldNow (changed (Change.DropCart id) store.now.state) holds.new.items }
+    ensures held { AreHeldNow
+        (change_applied (Change.DropCart id) store.now.state) holds.new.items }
     ensures stays { Stays holds.old holds.new }
 {
     store.known();

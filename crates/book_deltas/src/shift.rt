@@ -6,7 +6,7 @@ ghost use Rattle.base_sorted.specs.Tables.{with_row, without_row, AreInOrder};
 ghost use Rattle.model_catalogue.specs.declared.rows.Quota.{Quota};
 ghost use Rattle.model_rows.specs.declared.rows.Usage.{Usage};
 ghost use Rattle.book_deltas.specs.Beside.{room_left};
-ghost use Rattle.book_deltas.specs.Shifts.{moved};
+ghost use Rattle.book_deltas.specs.Shifts.{count_moved};
 
 use base_sorted::{Row, place_of};
 use model_catalogue::Quota;
@@ -27,8 +27,8 @@ pub trait Shift {
 }
 
 /// A count after some came, at most 2^64 - 1, and some went.
-pub fn moved(count: u64, come: u64, gone: u64) -> u64
-    ensures value { result ≡ moved count come gone }
+pub fn count_moved(count: u64, come: u64, gone: u64) -> u64
+    ensures value { result ≡ count_moved count come gone }
 {
     count.saturating_add(come).saturating_sub(gone)
 }

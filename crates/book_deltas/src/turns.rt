@@ -3,7 +3,7 @@
 ghost use Rattle.std.specs.Prelude.{◌≡◌, ◌≤◌};
 ghost use Rattle.model_rows.specs.Usage.{redeemed};
 ghost use Rattle.book_usage.specs.Limits.{most_listed};
-ghost use Rattle.book_deltas.specs.Turns.{turned};
+ghost use Rattle.book_deltas.specs.Turns.{count_after_turn};
 ghost use Rattle.book_deltas.specs.Usages.{AreRedeemed};
 
 use base_sorted::place_of;
@@ -31,8 +31,8 @@ pub fn redeemed_in(store: &Store, redeems: &[u64], voucher: u64) -> u64
 }
 
 /// One more, or one less.
-pub fn turned(count: u64, up: bool) -> u64
-    ensures { result ≡ turned up count }
+pub fn count_after_turn(count: u64, up: bool) -> u64
+    ensures { result ≡ count_after_turn up count }
 {
     if up {
         count.saturating_add(1)

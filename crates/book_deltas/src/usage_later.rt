@@ -11,7 +11,7 @@ ghost use Rattle.book_usage.specs.Limits.{last_use, most_listed};
 ghost use Rattle.book_store.specs.OneRow.{is_live_in};
 ghost use Rattle.book_store.specs.Walks.{one_if};
 ghost use Rattle.book_deltas.specs.Later.{named_in, release_if, free_if, naming_if, with_release_steps, Stands};
-ghost use Rattle.book_deltas.specs.Shifts.{moved, lapsed, released, freed, time_shift};
+ghost use Rattle.book_deltas.specs.Shifts.{count_moved, carts_lapsed, blocks_released, carts_freed, time_shift};
 ghost use Rattle.book_deltas.specs.Usages.{AreRedeemed};
 
 use base_values::{Moment, Steps};
@@ -135,9 +135,15 @@ fn count_if<L: Ledger>(
 }
 
 // How many cart positions counted in the quota at the moment of the store, and have ended since.
-fn lapsed<L: Ledger>(ended: &Ended<'_, L>, quota: &Quota, at: Moment, steps: &mut Steps<L>) -> u64
+fn carts_lapsed<L: Ledger>(
+    ended: &Ended<'_, L>,
+    quota: &Quota,
+    at: Moment,
+    steps: &mut Steps<L>,
+) -> u64
     requires { ended.now.state.moment ≤ at }
-    ensures value { result ≡ lapsed ended.now.state.lists ended.now.state.moment at quota.now }
+    ensures value { result
+        ≡ carts_lapsed ended.now.state.lists ended.now.state.moment at quota.now }
     ensures few { result ≤ most_listed }
     ensures cost { steps.new ≡ steps.old
         + count_by (is_due_cart ended.now.state.moment at) ended.now.state.lists.carts }
@@ -155,7 +161,7 @@ fn lapsed<L: Ledger>(ended: &Ended<'_, L>, quota: &Quota, at: Moment, steps: &mu
 // What a count is after some came and some went, at most 2^64 - 1.
 fn moved_far(count: u64, come: u128, gone: u128) -> u64
     requires { come ≤ 18446744073709551616 }
-    ensures value { result ≡ moved count come gone }
+    ensures value { result ≡ count_moved count come gone }
     ensures fits { count ≤ 18446744073709551615 }
 {
     (u128::from(count) + come)
@@ -171,7 +177,7 @@ pub struct Releases {
 }
 
 // What the vouchers that have ended since the moment of the store blocked, and how many live cart positions they covered.
-fn released<L: Ledger>(
+fn blocks_released<L: Ledger>(
     ended: &Ended<'_, L>,
     redeems: &[u64],
     quota: &Quota,
@@ -181,8 +187,9 @@ fn released<L: Ledger>(
     requires moment { ended.now.state.moment ≤ at }
     requires redeems { AreRedeemed ended.now.state.lists redeems.now }
     ensures blocked { result.blocked
-        ≡ released ended.now.state.lists ended.now.state.moment at quota.now }
-    ensures carts { result.carts ≡ freed ended.now.state.lists ended.now.state.moment at quota.now }
+        ≡ blocks_released ended.now.state.lists ended.now.state.moment at quota.now }
+    ensures carts { result.carts
+        ≡ carts_freed ended.now.state.lists ended.now.state.moment at quota.now }
     ensures few { result.carts ≤ 18446744073709551616 }
     ensures cost { steps.new ≤ with_release_steps ended.now.state at steps.old }
 {
@@ -215,8 +222,8 @@ pub fn later<L: Ledger>(
     ensures cost { steps.new ≤ with_due_steps ended.now.state at steps.old }
 {
     ended.known();
-    let lapsed = lapsed(ended, quota, at, steps);
-    let released = released(ended, redeems, quota, at, steps);
+    let lapsed = carts_lapsed(ended, quota, at, steps);
+    let released = blocks_released(ended, redeems, quota, at, steps);
     Usage {
         blocked: moved_far(usage.blocked, 0, released.blocked),
         carts: moved_far(usage.carts, released.carts, u128::from(lapsed)),

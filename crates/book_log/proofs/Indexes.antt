@@ -160,7 +160,9 @@ module _ (log : List Change) (tables : List (List Touch)) (before : List (Option
           ∙ ap (λ (b : Bool). if b then Some n else last_place (touches table id) log) e
 
 -- the same with what a push reads and writes by name
-pub pushed : (log : List Change) (tables : List (List Touch)) (before : List (Option ℕ)) (counts : List ℕ) (change : Change) (t k place : ℕ) (d e : List Touch) (o : Option ℕ) (row : List Touch) (more : List Change) (befores : List (Option ℕ)) (raised : List ℕ) → IsIndex log tables before counts → t ≡ table_of change → t < 10 → k ≡ id_of change → place ≡ length log → o ≡ place_in k (get_or tables t d) → row ≡ with_row (λ r. r.id) (record { id = k; place = Some place }) (get_or tables t e) → more ≡ log ++ change ∷ [] → befores ≡ before ++ o ∷ [] → raised ≡ with_one_more t counts → IsIndex more (set tables t row) befores raised
+pub pushed : (log : List Change) (tables : List (List Touch)) (before : List (Option ℕ)) (counts : List ℕ) (change : Change) (t k place : ℕ) (d e : List Touch) (o : Option ℕ) (row : List Touch) (more : List Change) (befores : List (Option ℕ)) (raised : List ℕ)
+    → IsIndex log tables before counts → t ≡ table_of change → t < 10 → k ≡ id_of change → place ≡ length log → o ≡ place_in k (get_or tables t d) → row ≡ with_row (λ r. r.id) (record { id = k; place = Some place }) (get_or tables t e)
+    → more ≡ log ++ change ∷ [] → befores ≡ before ++ o ∷ [] → raised ≡ with_one_more t counts → IsIndex more (set tables t row) befores raised
 pushed log tables before counts change t k place d e o row more befores raised is t_is t_lt k_is place_is o_is row_is more_is befores_is raised_is =
     let lt : t < length tables = omega (arith, t_lt, is.ten) in
     let old : o ≡ last_place (touches t k) log = o_is ∙ ap (place_in k) (get_or_default tables t d [] lt) ∙ is.lasts t k t_lt in
@@ -192,7 +194,9 @@ is_counted log tables before counts last t change is last_is change_is t_is t_lt
     omega (arith, is.counted t t_lt, all, count_more t (take last log) change, counts_own t change t_is)
 
 -- the same with what going back reads and writes by name
-pub popped : (log : List Change) (tables : List (List Touch)) (before : List (Option ℕ)) (counts : List ℕ) (last t k : ℕ) (change : Change) (o : Option ℕ) (e : List Touch) (row : List Touch) (fewer : List Change) (befores : List (Option ℕ)) (lowered : List ℕ) → IsIndex log tables before counts → last + 1 ≡ length log → change ≡ get_or log last change → t ≡ table_of change → t < 10 → k ≡ id_of change → o ≡ get_or before last o → row ≡ with_row (λ r. r.id) (record { id = k; place = o }) (get_or tables t e) → fewer ≡ take last log → befores ≡ take last before → lowered ≡ with_one_fewer t counts → IsIndex fewer (set tables t row) befores lowered
+pub popped : (log : List Change) (tables : List (List Touch)) (before : List (Option ℕ)) (counts : List ℕ) (last t k : ℕ) (change : Change) (o : Option ℕ) (e : List Touch) (row : List Touch) (fewer : List Change) (befores : List (Option ℕ)) (lowered : List ℕ)
+    → IsIndex log tables before counts → last + 1 ≡ length log → change ≡ get_or log last change → t ≡ table_of change → t < 10 → k ≡ id_of change → o ≡ get_or before last o
+    → row ≡ with_row (λ r. r.id) (record { id = k; place = o }) (get_or tables t e) → fewer ≡ take last log → befores ≡ take last before → lowered ≡ with_one_fewer t counts → IsIndex fewer (set tables t row) befores lowered
 popped log tables before counts last t k change o e row fewer befores lowered is last_is change_is t_is t_lt k_is o_is row_is fewer_is befores_is lowered_is =
     let lt : t < length tables = omega (arith, t_lt, is.ten) in
     let index = subst (λ (l : List Change). IsIndex l tables before counts) (whole log last change last_is change_is) is in

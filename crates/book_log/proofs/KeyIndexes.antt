@@ -79,7 +79,8 @@ module _ (keys : List ℕ) (last : List Touch) (before : List (Option ℕ)) (key
           ∙ ap (λ (b : Bool). if b then Some n else last_place (λ k. eqb k other) keys) e.0
 
 -- the same with what a push reads and writes by name
-pub key_pushed : (keys : List ℕ) (last : List Touch) (before : List (Option ℕ)) (key place : ℕ) (o : Option ℕ) (row : List Touch) (more : List ℕ) (befores : List (Option ℕ)) → IsKeyIndex keys last before → place ≡ length keys → o ≡ place_in key last → row ≡ with_row (λ r. r.id) (record { id = key; place = Some place }) last → more ≡ keys ++ key ∷ [] → befores ≡ before ++ o ∷ [] → IsKeyIndex more row befores
+pub key_pushed : (keys : List ℕ) (last : List Touch) (before : List (Option ℕ)) (key place : ℕ) (o : Option ℕ) (row : List Touch) (more : List ℕ) (befores : List (Option ℕ)) → IsKeyIndex keys last before → place ≡ length keys
+    → o ≡ place_in key last → row ≡ with_row (λ r. r.id) (record { id = key; place = Some place }) last → more ≡ keys ++ key ∷ [] → befores ≡ before ++ o ∷ [] → IsKeyIndex more row befores
 key_pushed keys last before key place o row more befores is place_is o_is row_is more_is befores_is =
     let here = row_is ∙ ap (λ m. with_row (λ (r : Touch). r.id) (record { id = key; place = Some m }) last) place_is in
     rw (more_is, befores_is, here, o_is ∙ is.lasts key) (keys_more keys last before key is)
@@ -97,7 +98,8 @@ is_kept keys last before place key is place_is key_is none =
     none-some (length (take place keys)) (sym none ∙ last_key (take place keys) last before key index)
 
 -- the same with what going back reads and writes by name
-pub key_popped : (keys : List ℕ) (last : List Touch) (before : List (Option ℕ)) (place key : ℕ) (o : Option ℕ) (row : List Touch) (fewer : List ℕ) (befores : List (Option ℕ)) → IsKeyIndex keys last before → place + 1 ≡ length keys → key ≡ get_or keys place key → o ≡ get_or before place o → row ≡ with_row (λ r. r.id) (record { id = key; place = o }) last → fewer ≡ take place keys → befores ≡ take place before → IsKeyIndex fewer row befores
+pub key_popped : (keys : List ℕ) (last : List Touch) (before : List (Option ℕ)) (place key : ℕ) (o : Option ℕ) (row : List Touch) (fewer : List ℕ) (befores : List (Option ℕ)) → IsKeyIndex keys last before → place + 1 ≡ length keys
+    → key ≡ get_or keys place key → o ≡ get_or before place o → row ≡ with_row (λ r. r.id) (record { id = key; place = o }) last → fewer ≡ take place keys → befores ≡ take place before → IsKeyIndex fewer row befores
 key_popped keys last before place key o row fewer befores is place_is key_is o_is row_is fewer_is befores_is =
     let index = subst (λ (l : List ℕ). IsKeyIndex l last before) (whole keys place key place_is key_is) is in
     let count : length (take place keys) ≡ place = length-take-le place keys (omega (arith, place_is)) in

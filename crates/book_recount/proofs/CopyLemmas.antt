@@ -13,12 +13,12 @@ use Rattle.model_rows.specs.declared.rows.Order.{Order}
 use Rattle.model_rows.specs.declared.rows.OrderPos.{OrderPos}
 use Rattle.model_rows.specs.declared.rows.Voucher.{Voucher}
 use Rattle.model_rows.specs.declared.rows.Waiting.{Waiting as Entry}
-use Rattle.model_rows.specs.Change.{Changed, after_change, after_all, applied}
+use Rattle.model_rows.specs.Change.{Changed, after_change, after_all, changes_applied}
 use Rattle.model_rows.specs.CountRows.{CountRows, counts_after}
 use Rattle.model_rows.specs.Kept.{IsKept}
 use Rattle.model_rows.specs.Lists.{Lists, State, no_rows, empty}
 use Rattle.model_rows.specs.Usage.{usage_of, blocked_by}
-use Rattle.book_recount.specs.Copied.{counted, puts_of}
+use Rattle.book_recount.specs.Copied.{counted_rows, puts_of}
 
 -- ---- rows in order that are put one after another are the list that they are
 
@@ -103,7 +103,7 @@ module _ (lists : Lists) (n : ℕ) (kept : IsKept n lists) (quotas : AreInOrder 
   abbrev with_waiting : Lists
   with_waiting = record with_carts { waiting = lists.waiting }
 
-  pub copied : after_all (puts_of lists) no_rows ≡ counted lists
+  pub copied : after_all (puts_of lists) no_rows ≡ counted_rows lists
   copied =
       let a = quotas_put lists.catalogue.quotas no_rows ∙ ap (λ (l : List Quota). record no_rows { catalogue = record { items = []; variations = []; quotas = l } }) (filled (λ (r : Quota). r.id) lists.catalogue.quotas quotas) in
       let b = vouchers_put lists.vouchers with_quotas ∙ ap (λ (l : List Voucher). record with_quotas { vouchers = l }) (filled (λ (r : Voucher). r.id) lists.vouchers kept.vouchers.in_order) in
@@ -124,16 +124,16 @@ module _ (lists : Lists) (n : ℕ) (kept : IsKept n lists) (quotas : AreInOrder 
       let four = both_put (q ++ v ++ o) p no_rows with_orders with_positions three d in
       let five = both_put (q ++ v ++ o ++ p) k no_rows with_positions with_carts four e in
       let six = both_put (q ++ v ++ o ++ p ++ k) w no_rows with_carts with_waiting five f in
-      both_put (q ++ v ++ o ++ p ++ k ++ w) i no_rows with_waiting (counted lists) six g
+      both_put (q ++ v ++ o ++ p ++ k ++ w) i no_rows with_waiting (counted_rows lists) six g
 
   -- a book that was empty, with these changes
-  pub copy_is : (list : List Change) (changes : Changed) (at : ℕ) (old new : State) → list ≡ puts_of lists → changes.list ≡ list → old ≡ empty → new ≡ applied changes at old → new.lists ≡ counted lists
+  pub copy_is : (list : List Change) (changes : Changed) (at : ℕ) (old new : State) → list ≡ puts_of lists → changes.list ≡ list → old ≡ empty → new ≡ changes_applied changes at old → new.lists ≡ counted_rows lists
   copy_is list changes at old new list_is changes_is old_is new_is =
       ap (λ (s : State). s.lists) new_is ∙ ap (λ (s : State). after_all changes.list s.lists) old_is ∙ ap (λ (l : List Change). after_all l no_rows) (changes_is ∙ list_is) ∙ copied
 
 -- ---- the same changes
 
-one_change : (change : Change) (lists : Lists) → counted (after_change change (counted lists)) ≡ counted (after_change change lists)
+one_change : (change : Change) (lists : Lists) → counted_rows (after_change change (counted_rows lists)) ≡ counted_rows (after_change change lists)
 one_change (PutItem row) lists = refl
 one_change (PutVariation row) lists = refl
 one_change (PutQuota row) lists = refl
@@ -148,22 +148,22 @@ one_change (DropWaiting id) lists = refl
 one_change (PutCheckinList row) lists = refl
 one_change (PutCheckin row) lists = refl
 
-all_changes : (changes : List Change) (a b : Lists) → counted a ≡ counted b → counted (after_all changes a) ≡ counted (after_all changes b)
+all_changes : (changes : List Change) (a b : Lists) → counted_rows a ≡ counted_rows b → counted_rows (after_all changes a) ≡ counted_rows (after_all changes b)
 all_changes [] a b same = same
-all_changes (c ∷ cs) a b same = all_changes cs (after_change c a) (after_change c b) (sym (one_change c a) ∙ ap (λ (l : Lists). counted (after_change c l)) same ∙ one_change c b)
+all_changes (c ∷ cs) a b same = all_changes cs (after_change c a) (after_change c b) (sym (one_change c a) ∙ ap (λ (l : Lists). counted_rows (after_change c l)) same ∙ one_change c b)
 
 -- what is told of an office reads no other rows
-by_counted : (before : State) (lists : Lists) (next : NextIds) (at : ℕ) → counts_after before (record { lists = lists; next = next; moment = at }) ≡ counts_after before (record { lists = counted lists; next = next; moment = at })
+by_counted : (before : State) (lists : Lists) (next : NextIds) (at : ℕ) → counts_after before (record { lists = lists; next = next; moment = at }) ≡ counts_after before (record { lists = counted_rows lists; next = next; moment = at })
 unfolding usage_of blocked_by
 by_counted before lists next at = refl
 
-pub told_by_copy : (before : State) (copy : Lists) (changes : List Change) (next : NextIds) (at : ℕ) → copy ≡ counted before.lists → counts_after before (record { lists = after_all changes copy; next = next; moment = at }) ≡ counts_after before (record { lists = after_all changes before.lists; next = next; moment = at })
+pub told_by_copy : (before : State) (copy : Lists) (changes : List Change) (next : NextIds) (at : ℕ) → copy ≡ counted_rows before.lists → counts_after before (record { lists = after_all changes copy; next = next; moment = at }) ≡ counts_after before (record { lists = after_all changes before.lists; next = next; moment = at })
 told_by_copy before copy changes next at is =
     by_counted before (after_all changes copy) next at
-    ∙ ap (λ (l : Lists). counts_after before (record { lists = l; next = next; moment = at })) (all_changes changes copy before.lists (ap counted is))
+    ∙ ap (λ (l : Lists). counts_after before (record { lists = l; next = next; moment = at })) (all_changes changes copy before.lists (ap counted_rows is))
     ∙ sym (by_counted before (after_all changes before.lists) next at)
 
 -- what is told of a copy after changes
-pub told_after : (before copy old new : State) (rows : CountRows) (changes : Changed) (at : ℕ) → rows ≡ counts_after before new → new ≡ applied changes at old → old ≡ copy → copy.lists ≡ counted before.lists → rows ≡ counts_after before (applied changes at before)
+pub told_after : (before copy old new : State) (rows : CountRows) (changes : Changed) (at : ℕ) → rows ≡ counts_after before new → new ≡ changes_applied changes at old → old ≡ copy → copy.lists ≡ counted_rows before.lists → rows ≡ counts_after before (changes_applied changes at before)
 told_after before copy old new rows changes at rows_are new_is old_is copy_is =
-    rows_are ∙ ap (counts_after before) (new_is ∙ ap (applied changes at) old_is) ∙ told_by_copy before copy.lists changes.list changes.next at copy_is
+    rows_are ∙ ap (counts_after before) (new_is ∙ ap (changes_applied changes at) old_is) ∙ told_by_copy before copy.lists changes.list changes.next at copy_is

@@ -5,8 +5,8 @@ use Rattle.model_rows.specs.declared.changes.Change.TheVariants.{PutQuota, PutVo
 use Rattle.model_rows.specs.Lists.{Lists}
 
 -- the rows that add to a count, or of which a count is kept; check-ins tell which tickets have gone out
-abbrev pub counted : Lists → Lists
-counted lists = record lists { catalogue = record { items = []; variations = []; quotas = lists.catalogue.quotas }; checkin_lists = [] }
+abbrev pub counted_rows : Lists → Lists
+counted_rows lists = record lists { catalogue = record { items = []; variations = []; quotas = lists.catalogue.quotas }; checkin_lists = [] }
 
 -- the changes that put these
 abbrev pub puts_of : Lists → List Change

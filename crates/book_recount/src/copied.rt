@@ -4,7 +4,7 @@ ghost use Rattle.std.specs.Prelude.{◌≡◌, ◌≤◌, ◌++◌, [], ◌∷�
 ghost use Rattle.model_rows.specs.declared.changes.Change.{Change};
 ghost use Rattle.model_rows.specs.declared.changes.Change.TheVariants.{PutQuota, PutVoucher, PutCart, PutOrder, PutPosition, PutWaiting, PutCheckin};
 ghost use Rattle.book_usage.specs.Dues.{counts_of_changes};
-ghost use Rattle.book_recount.specs.Copied.{counted, puts_of};
+ghost use Rattle.book_recount.specs.Copied.{counted_rows, puts_of};
 
 use crate::recount::Recount;
 use base_sorted::{Row, Sparse};
@@ -37,7 +37,7 @@ pub fn counts_after<B: Book>(
 
 // A copy of the rows that count.
 fn copy_of<B: Book>(book: &B, alloc: Global) -> Result<Recount, AllocError>
-    ensures lists { IfOk result (λ copy. copy.state.lists ≡ counted (B.state book.now).lists) }
+    ensures lists { IfOk result (λ copy. copy.state.lists ≡ counted_rows (B.state book.now).lists) }
     ensures moment { IfOk result (λ copy. copy.state.moment ≡ (B.state book.now).moment) }
 {
     book.known();

@@ -4,7 +4,7 @@ ghost use Rattle.std.specs.Prelude.{◌≡◌, ◌≤◌, ◌+◌, ◌↔◌, �
 ghost use Rattle.std.specs.Option.{option_copied};
 ghost use Rattle.model_rows.specs.Lists.{empty};
 ghost use Rattle.model_rows.specs.Usage.{redeemed, usage_of, blocked_by, waits_for};
-ghost use Rattle.model_rows.specs.Change.{applied, after_all, changed};
+ghost use Rattle.model_rows.specs.Change.{changes_applied, after_all, change_applied};
 ghost use Rattle.model_rows.specs.Weight.{change_weight, weight};
 ghost use Rattle.book_usage.specs.Counts.{paid_in, pending_in, exited_in, blocked_in, carts_in_quota};
 ghost use Rattle.book_usage.specs.Limits.{most_listed, last_use};
@@ -89,7 +89,7 @@ impl Recount {
 
     fn apply_one(&mut self, change: Change)
         requires { change_weight change ≤ self.old.room }
-        ensures lists { self.new.state ≡ changed change self.old.state }
+        ensures lists { self.new.state ≡ change_applied change self.old.state }
         ensures room { self.old.room ≤ self.new.room + change_weight change }
     {
         match change {

@@ -16,7 +16,7 @@ use Rattle.model_rows.specs.Kept.{IsKept}
 use Rattle.model_rows.specs.Lists.{Lists}
 use Rattle.model_rows.specs.Usage.{blocked_by, cart_counts, exit_counts, position_counts, redeemed, usage_of, waits_for}
 use Rattle.book_usage.specs.Shares.{blocked_share, cart_share, exited_share, status_share, waiting_share}
-use Rattle.book_deltas.specs.Shifts.{block_shift, map_beside, moved, only}
+use Rattle.book_deltas.specs.Shifts.{block_shift, map_beside, count_moved, only}
 use Rattle.book_deltas.proofs.OfProducts.{either}
 use Rattle.book_deltas.proofs.ShiftLemmas.{map_beside_map}
 use Rattle.book_deltas.proofs.TouchedLemmas.{beside_alike, beside_beside, beside_same}
@@ -79,7 +79,7 @@ voucher_comes_one at spent voucher quotas us =
   where
     still : (q : Quota) (u : Usage) → hits q voucher ≡ false → block_shift at spent (Some voucher) None q u ≡ u
     still q u none =
-        let same : moved u.blocked (blocked_share at q spent (Some voucher)) (blocked_share at q spent None) ≡ u.blocked = omega (arith, blocked_none at q spent voucher none, no_block at q spent) in
+        let same : count_moved u.blocked (blocked_share at q spent (Some voucher)) (blocked_share at q spent None) ≡ u.blocked = omega (arith, blocked_none at q spent voucher none, no_block at q spent) in
         ap (λ (n : ℕ). record u { blocked = n }) same
 
 one_few : (lists : Lists) (at : ℕ) (quota : Quota) (v : Voucher) → v.max_usages ≤ 4294967295 → blocked_by lists at quota v ≤ 4294967295

@@ -1,7 +1,7 @@
 //! Changes of which it isn't known which counts they change: the rows are put, and then all that is kept beside them is counted afresh.
 
 ghost use Rattle.std.specs.Prelude.{◌≡◌, ◌≤◌, ◌+◌, length};
-ghost use Rattle.model_rows.specs.Change.{after_change, after_all, applied, changed};
+ghost use Rattle.model_rows.specs.Change.{after_change, after_all, changes_applied, change_applied};
 ghost use Rattle.model_rows.specs.Weight.{change_weight, weight};
 ghost use Rattle.book_settle.specs.Settled.{AllCounted, AllFit, AreSmall};
 
@@ -16,7 +16,7 @@ use model_rows::{Change, Changes, Usage};
 fn put_row(store: &mut Store, change: Change)
     requires room { change_weight change ≤ store.old.room }
     requires small { AreSmall store.old.state.lists }
-    ensures state { store.new.state ≡ changed change store.old.state }
+    ensures state { store.new.state ≡ change_applied change store.old.state }
     ensures room { store.old.room ≤ store.new.room + change_weight change }
     ensures small { AreSmall (after_change change store.old.state.lists) }
 {
@@ -59,7 +59,7 @@ pub fn count_again(
     requires small { AreSmall store.old.state.lists }
     requires fits { AllFit
         (weight changes.list) store.old.room usages.old redeems.old spents.old holds.old }
-    ensures state { store.new.state ≡ applied changes at store.old.state }
+    ensures state { store.new.state ≡ changes_applied changes at store.old.state }
     ensures kept { AllCounted store.new.state usages.new.items redeems.new.items spents.new.items
         holds.new.items }
 {

@@ -11,7 +11,7 @@ ghost use Rattle.book_settle.specs.Fresh.{AllShifted, after_each, position_comes
 ghost use Rattle.book_settle.specs.Settled.{nothing, AreSmall};
 
 use base_values::Moment;
-use book_deltas::shift::{Shift, moved};
+use book_deltas::shift::{Shift, count_moved};
 use book_deltas::touched::{shift_hit, shift_product};
 use book_deltas::turns::{redeemed_in, vouchers};
 use book_store::Store;
@@ -44,17 +44,17 @@ impl<'s> Shift for PositionComes<'s> {
 
     fn shifted(&self, quota: &Quota, usage: Usage) -> Usage {
         Usage {
-            paid: moved(
+            paid: count_moved(
                 usage.paid,
                 paid_share(self.store, quota, Some(self.row)),
                 paid_share(self.store, quota, None),
             ),
-            pending: moved(
+            pending: count_moved(
                 usage.pending,
                 pending_share(self.store, quota, Some(self.row)),
                 pending_share(self.store, quota, None),
             ),
-            exited: moved(
+            exited: count_moved(
                 usage.exited,
                 exited_share(self.store, quota, Some(self.row)),
                 exited_share(self.store, quota, None),
@@ -79,7 +79,7 @@ impl<'s> Shift for CartComes<'s> {
 
     fn shifted(&self, quota: &Quota, usage: Usage) -> Usage {
         Usage {
-            carts: moved(
+            carts: count_moved(
                 usage.carts,
                 cart_share(self.store, self.at, quota, Some(self.row)),
                 cart_share(self.store, self.at, quota, None),
@@ -102,7 +102,7 @@ impl<'s> Shift for EntryComes<'s> {
 
     fn shifted(&self, quota: &Quota, usage: Usage) -> Usage {
         Usage {
-            waiting: moved(
+            waiting: count_moved(
                 usage.waiting,
                 waiting_share(quota, Some(self.row)),
                 waiting_share(quota, None),
@@ -127,7 +127,7 @@ impl<'s> Shift for VoucherComes<'s> {
 
     fn shifted(&self, quota: &Quota, usage: Usage) -> Usage {
         Usage {
-            blocked: moved(
+            blocked: count_moved(
                 usage.blocked,
                 blocked_share(self.at, quota, self.spent, Some(self.row)),
                 blocked_share(self.at, quota, self.spent, None),

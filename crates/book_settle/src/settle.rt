@@ -6,7 +6,7 @@ ghost use Rattle.model_rows.specs.declared.rows.Usage.{Usage};
 ghost use Rattle.std.specs.List.{list_all};
 ghost use Rattle.base_sorted.specs.Tables.{AreInOrder};
 ghost use Rattle.base_values.specs.Money.{last_cents};
-ghost use Rattle.model_rows.specs.Change.{after_change, after_all, applied, changed};
+ghost use Rattle.model_rows.specs.Change.{after_change, after_all, changes_applied, change_applied};
 ghost use Rattle.model_rows.specs.Weight.{change_weight, weight};
 ghost use Rattle.book_usage.specs.Dues.{counts_of_changes};
 ghost use Rattle.book_usage.specs.Limits.{last_use};
@@ -109,7 +109,7 @@ fn keep_beside<U: Copy + Drop>(store: &Store, kept: &mut Vec<U>, change: &Change
 fn keep_holds(store: &Store, holds: &mut Vec<u64>, change: &Change)
     requires held { AreHeldNow store.now.state holds.old.items }
     requires room { change_weight change.now ≤ room_left holds.old }
-    ensures held { AreHeldNow (changed change.now store.now.state) holds.new.items }
+    ensures held { AreHeldNow (change_applied change.now store.now.state) holds.new.items }
     ensures room { room_left holds.old ≤ room_left holds.new + change_weight change.now }
 {
     match change {
@@ -124,7 +124,7 @@ fn keep_holds(store: &Store, holds: &mut Vec<u64>, change: &Change)
 fn keep_hold(store: &Store, holds: &mut Vec<u64>, row: &Voucher)
     requires held { AreHeldNow store.now.state holds.old.items }
     requires room { 1 ≤ room_left holds.old }
-    ensures held { AreHeldNow (changed (Change.PutVoucher row.now) store.now.state)
+    ensures held { AreHeldNow (change_applied (Change.PutVoucher row.now) store.now.state)
         holds.new.items }
     ensures room { room_left holds.old ≤ room_left holds.new + 1 }
 {
@@ -135,7 +135,8 @@ fn keep_hold(store: &Store, holds: &mut Vec<u64>, row: &Voucher)
 
 fn drop_hold(store: &Store, holds: &mut Vec<u64>, id: u64)
     requires held { AreHeldNow store.now.state holds.old.items }
-    ensures held { AreHeldNow (changed (Change.DropVoucher id) store.now.state) holds.new.items }
+    ensures held { AreHeldNow
+        (change_applied (Change.DropVoucher id) store.now.state) holds.new.items }
     ensures room { room_left holds.old ≤ room_left holds.new }
 {
     store.known();
@@ -187,9 +188,9 @@ fn carry(
     requires held { AreHeldNow store.old.state holds.old.items }
     requires small { AreSmall store.old.state.lists }
     ensures small { AreSmall (after_change change store.old.state.lists) }
-    ensures held { AreHeldNow (changed change store.old.state) holds.new.items }
+    ensures held { AreHeldNow (change_applied change store.old.state) holds.new.items }
     ensures holds_room { room_left holds.old ≤ room_left holds.new + change_weight change }
-    ensures state { store.new.state ≡ changed change store.old.state }
+    ensures state { store.new.state ≡ change_applied change store.old.state }
     ensures usages { KeepsQuotas change store.old.state.lists usages.old usages.new }
     ensures redeems { KeepsVouchers 0 change store.old.state.lists redeems.old redeems.new }
     ensures spents { KeepsVouchers 0 change store.old.state.lists spents.old spents.new }
@@ -267,7 +268,7 @@ pub fn settle(
     requires spared { list_all (spares_used store.old.state.lists) changes.list ≡ true }
     requires fits { AllFit
         (weight changes.list) store.old.room usages.old redeems.old spents.old holds.old }
-    ensures state { store.new.state ≡ applied changes at store.old.state }
+    ensures state { store.new.state ≡ changes_applied changes at store.old.state }
     ensures kept { AllCounted store.new.state usages.new.items redeems.new.items spents.new.items
         holds.new.items }
 {

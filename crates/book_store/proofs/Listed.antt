@@ -5,7 +5,7 @@ use Rattle.std.specs.Prelude.{if◌then◌else◌, find, filter, is_some, ◌||�
 use Rattle.std.specs.List.{AllByRecursion, list_any}
 use Rattle.base_sorted.specs.Tables.{row_at, AreInOrder}
 use Rattle.model_rows.proofs.Found.{each_found}
-use Rattle.book_store.specs.Walks.{listed, rows_of, passing}
+use Rattle.book_store.specs.Walks.{row_as_list, rows_of, passing}
 
 -- what is left at a place that is within
 pub drop_next : {A : Type 0} (xs : List A) (i : ℕ) (d : A) → i < length xs → drop i xs ≡ get_or xs i d ∷ drop (i + 1) xs
@@ -25,7 +25,7 @@ module _ {T : Type 0} (id : T → ℕ) (rows : List T) where
   rows_selected test (r ∷ rs) h = by_test (test r) (rows_selected test rs h.1)
     where
       by_test : (b : Bool) → rows_of id (map id (filter test rs)) rows ≡ filter test rs → rows_of id (map id (cond b (r ∷ filter test rs) (filter test rs))) rows ≡ cond b (r ∷ filter test rs) (filter test rs)
-      by_test true more = ap (λ o. listed o ++ rows_of id (map id (filter test rs)) rows) h.0 ∙ ap (λ l. r ∷ l) more
+      by_test true more = ap (λ o. row_as_list o ++ rows_of id (map id (filter test rs)) rows) h.0 ∙ ap (λ l. r ∷ l) more
       by_test false more = more
 
   -- the rows of the ids of those that pass are those that pass
@@ -33,17 +33,17 @@ module _ {T : Type 0} (id : T → ℕ) (rows : List T) where
   rows_found test ids order is = ap (λ l. rows_of id l rows) is ∙ rows_selected test rows (each_found id 0 rows order)
 
   -- the row at a place, and those of the places behind it
-  pub rows_next : (ids : List ℕ) (i x : ℕ) → i < length ids → ((d : ℕ) → get_or ids i d ≡ x) → rows_of id (drop i ids) rows ≡ listed (row_at id x rows) ++ rows_of id (drop (i + 1) ids) rows
-  rows_next ids i x lt is = ap (λ l. rows_of id l rows) (drop_next ids i x lt) ∙ ap (λ y. listed (row_at id y rows) ++ rows_of id (drop (i + 1) ids) rows) (is x)
+  pub rows_next : (ids : List ℕ) (i x : ℕ) → i < length ids → ((d : ℕ) → get_or ids i d ≡ x) → rows_of id (drop i ids) rows ≡ row_as_list (row_at id x rows) ++ rows_of id (drop (i + 1) ids) rows
+  rows_next ids i x lt is = ap (λ l. rows_of id l rows) (drop_next ids i x lt) ∙ ap (λ y. row_as_list (row_at id y rows) ++ rows_of id (drop (i + 1) ids) rows) (is x)
 
   pub rows_end : (ids : List ℕ) (i : ℕ) → length ids ≤ i → rows_of id (drop i ids) rows ≡ []
   rows_end ids i le = ap (λ l. rows_of id l rows) (drop_end ids i le)
 
 -- a list that grows by what is seen of each row
 module _ {T U : Type 0} (id : T → ℕ) (rows : List T) (view : List T → List U) (ids : List ℕ) (i : ℕ) (total had : List U) (left : had ++ view (rows_of id (drop i ids) rows) ≡ total) where
-  pub one_more : (x : ℕ) (now : List U) → ((xs ys : List T) → view (xs ++ ys) ≡ view xs ++ view ys) → i < length ids → ((d : ℕ) → get_or ids i d ≡ x) → now ≡ had ++ view (listed (row_at id x rows)) → now ++ view (rows_of id (drop (i + 1) ids) rows) ≡ total
+  pub one_more : (x : ℕ) (now : List U) → ((xs ys : List T) → view (xs ++ ys) ≡ view xs ++ view ys) → i < length ids → ((d : ℕ) → get_or ids i d ≡ x) → now ≡ had ++ view (row_as_list (row_at id x rows)) → now ++ view (rows_of id (drop (i + 1) ids) rows) ≡ total
   one_more x now splits lt at is =
-      let o = listed (row_at id x rows) in
+      let o = row_as_list (row_at id x rows) in
       let rest = rows_of id (drop (i + 1) ids) rows in
       ap (λ l. l ++ view rest) is
       ∙ append_assoc had (view o) (view rest)
@@ -76,7 +76,7 @@ module _ {T : Type 0} (test pass : T → Bool) (implies : (r : T) → pass r ≡
 
 -- the first of some rows that passes
 module _ {T : Type 0} (pass : T → Bool) (more : List T) where
-  pub first_passes : (o : Option T) → is_some (passing pass o) ≡ true → find pass (listed o ++ more) ≡ passing pass o
+  pub first_passes : (o : Option T) → is_some (passing pass o) ≡ true → find pass (row_as_list o ++ more) ≡ passing pass o
   first_passes None is = absurd (cc is)
   first_passes (Some r) is = by_pass (pass r) is
     where
@@ -84,7 +84,7 @@ module _ {T : Type 0} (pass : T → Bool) (more : List T) where
       by_pass true is = refl
       by_pass false is = absurd (cc is)
 
-  pub first_fails : (o : Option T) → is_some (passing pass o) ≡ false → find pass (listed o ++ more) ≡ find pass more
+  pub first_fails : (o : Option T) → is_some (passing pass o) ≡ false → find pass (row_as_list o ++ more) ≡ find pass more
   first_fails None is = refl
   first_fails (Some r) is = by_pass (pass r) is
     where

@@ -14,7 +14,7 @@ use Rattle.model_rows.specs.Lists.{Lists, voucher_at, order_at, position_at, wai
 use Rattle.model_rows.specs.Usage.{stands_as}
 use Rattle.model_rows.specs.Waits.{waits_as}
 use Rattle.book_indexes.specs.Indexes.{ids_passing}
-use Rattle.book_store.specs.Walks.{listed, passing, one_if}
+use Rattle.book_store.specs.Walks.{row_as_list, passing, one_if}
 
 -- the voucher of an id, if it has the code
 abbrev pub coded_at : ℕ → List ℕ → Lists → Option Voucher
@@ -30,7 +30,7 @@ entry_as id email product lists = passing (waits_as email product) (waiting_at i
 
 -- the check-in of an id, if there is one, and it is of this position by this list
 abbrev pub checkin_by : ℕ → ℕ → ℕ → Lists → List Checkin
-checkin_by id list position lists = filter (λ c. c.list == list && c.position == position) (listed (checkin_at id lists))
+checkin_by id list position lists = filter (λ c. c.list == list && c.position == position) (row_as_list (checkin_at id lists))
 
 -- the ids of those of these cart positions that are in the cart
 abbrev pub ids_in_cart : List ℕ → List CartPos → List ℕ

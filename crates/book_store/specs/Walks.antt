@@ -3,14 +3,14 @@ use Rattle.std.specs.Prelude.{ℕ, Bool, List, [], ◌∷◌, ◌++◌, Option, 
 use Rattle.base_sorted.specs.Tables.{row_at, sum_at}
 
 -- the row, if there is one
-abbrev pub listed : {T : Type 0} → Option T → List T
-listed None = []
-listed (Some row) = row ∷ []
+abbrev pub row_as_list : {T : Type 0} → Option T → List T
+row_as_list None = []
+row_as_list (Some row) = row ∷ []
 
 -- the rows of these ids, as far as they stand
 abbrev pub rows_of : {T : Type 0} → (T → ℕ) → List ℕ → List T → List T
 rows_of id [] rows = []
-rows_of id (i ∷ is) rows = listed (row_at id i rows) ++ rows_of id is rows
+rows_of id (i ∷ is) rows = row_as_list (row_at id i rows) ++ rows_of id is rows
 
 -- the row, if there is one and it passes
 abbrev pub passing : {T : Type 0} → (T → Bool) → Option T → Option T

@@ -1,10 +1,10 @@
 //! Carts.
 
 ghost use Rattle.std.specs.Prelude.{◌≡◌, ◌++◌, IfOk};
-ghost use Rattle.model_rows.specs.Consumed.{consumed};
+ghost use Rattle.model_rows.specs.Consumed.{carts_consumed};
 ghost use Rattle.model_rows.specs.Due.{dead_carts};
 ghost use Rattle.model_rows.specs.Lists.{cart_at};
-ghost use Rattle.book_store.specs.Walks.{listed};
+ghost use Rattle.book_store.specs.Walks.{row_as_list};
 ghost use Rattle.book_store.specs.OneRow.{ids_in_cart};
 
 use crate::store::Store;
@@ -17,8 +17,8 @@ use std::alloc::{AllocError, Global};
 impl Store {
     // Adds the id of a cart position, if it stands and is in the cart.
     fn push_cart(&self, ids: &mut Vec<u64>, id: u64, cart: &Text) -> Result<(), AllocError>
-        ensures { IfOk result (λ _. ids.new.items
-            ≡ ids.old.items ++ ids_in_cart cart.now (listed (cart_at id self.now.state.lists))) }
+        ensures { IfOk result (λ _. ids.new.items ≡ ids.old.items
+            ++ ids_in_cart cart.now (row_as_list (cart_at id self.now.state.lists))) }
     {
         if let Some(row) = self.cart(id) {
             if row.cart_id.same(cart.as_str()) {
@@ -43,7 +43,7 @@ impl Store {
 
     /// The ids of the cart positions of these carts, dead ones too, in order.
     pub fn carts_in(&self, alloc: Global, carts: &[Text]) -> Result<Vec<u64>, AllocError>
-        ensures { IfOk result (λ ids. ids.items ≡ consumed carts.now self.now.state.lists) }
+        ensures { IfOk result (λ ids. ids.items ≡ carts_consumed carts.now self.now.state.lists) }
     {
         self.known();
         let mut ids = Vec::new(alloc);

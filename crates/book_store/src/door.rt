@@ -3,7 +3,7 @@
 ghost use Rattle.std.specs.Prelude.{◌≡◌, ◌++◌, IfOk};
 ghost use Rattle.model_rows.specs.Lists.{checkin_at, checkins_by};
 ghost use Rattle.model_rows.specs.Passages.{last_after, last_at};
-ghost use Rattle.book_store.specs.Walks.{listed};
+ghost use Rattle.book_store.specs.Walks.{row_as_list};
 ghost use Rattle.book_store.specs.OneRow.{checkin_by};
 
 use crate::store::Store;
@@ -48,7 +48,7 @@ impl Store {
 
     // The later of the last one and the check-in of an id, if there is one.
     fn later_of(&self, last: Option<Passage>, id: u64) -> Option<Passage>
-        ensures { result ≡ last_after last (listed (checkin_at id self.now.state.lists)) }
+        ensures { result ≡ last_after last (row_as_list (checkin_at id self.now.state.lists)) }
     {
         match self.checkin(id) {
             None => last,

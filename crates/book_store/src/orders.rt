@@ -9,7 +9,7 @@ ghost use Rattle.book_usage.specs.Limits.{most_listed};
 ghost use Rattle.book_usage.specs.OfOrder.{count_ordered};
 ghost use Rattle.book_store.specs.Found.{FindsPositions};
 ghost use Rattle.book_store.specs.OneRow.{secret_at};
-ghost use Rattle.book_store.specs.Walks.{listed, one_if};
+ghost use Rattle.book_store.specs.Walks.{row_as_list, one_if};
 
 use crate::counts::count_one;
 use crate::store::Store;
@@ -52,7 +52,7 @@ impl Store {
         id: u64,
     ) -> Result<(), AllocError>
         ensures { IfOk result (λ _. rows.new.items
-            ≡ rows.old.items ++ listed (position_at id self.now.state.lists)) }
+            ≡ rows.old.items ++ row_as_list (position_at id self.now.state.lists)) }
     {
         if let Some(row) = self.position(id) {
             rows.push(row.copy(alloc)?)?;

@@ -3,7 +3,7 @@
 ghost use Rattle.std.specs.Prelude.{◌≡◌, ◌≤◌, ◌+◌, OnOk};
 ghost use Rattle.std.specs.Option.{option_copied};
 ghost use Rattle.model_rows.specs.Lists.{empty, checkin_list_at, checkin_at};
-ghost use Rattle.model_rows.specs.Change.{changed};
+ghost use Rattle.model_rows.specs.Change.{change_applied};
 ghost use Rattle.model_rows.specs.Weight.{change_weight};
 ghost use Rattle.model_rows.specs.Kept.{IsKept};
 ghost use Rattle.book_usage.specs.Limits.{most_listed};
@@ -234,7 +234,7 @@ impl Store {
     /// Makes one change.
     pub fn apply_one(&mut self, change: Change)
         requires { change_weight change ≤ self.old.room }
-        ensures lists { self.new.state ≡ changed change self.old.state }
+        ensures lists { self.new.state ≡ change_applied change self.old.state }
         ensures room { self.old.room ≤ self.new.room + change_weight change }
     {
         match change {

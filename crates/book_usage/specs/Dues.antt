@@ -1,7 +1,7 @@
 -- What came due between two moments, and the counts that are written then.
 use Rattle.std.specs.Prelude.{ℕ, ◌+◌, List, map, filter}
 use Rattle.model_rows.specs.CameDue.{is_due_cart, is_due_voucher, came_due, naming_due}
-use Rattle.model_rows.specs.Change.{Changed, applied}
+use Rattle.model_rows.specs.Change.{Changed, changes_applied}
 use Rattle.model_rows.specs.CountRows.{CountRows, counts_after}
 use Rattle.model_rows.specs.Lists.{Lists, State}
 
@@ -27,4 +27,4 @@ with_due_steps state at steps = steps + came_due state.moment at state.lists + n
 
 -- the counts that are to be written with changes at a moment
 abbrev pub counts_of_changes : Changed → ℕ → State → CountRows
-counts_of_changes changes at state = counts_after state (applied changes at state)
+counts_of_changes changes at state = counts_after state (changes_applied changes at state)

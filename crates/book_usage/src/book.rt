@@ -7,7 +7,7 @@ ghost use Rattle.model_rows.specs.declared.rows.OrderPos.{OrderPos};
 ghost use Rattle.model_rows.specs.Lists.{State, voucher_at, cart_at, order_at, position_at, positions_of, waiting_at, checkin_list_at, checkin_at, checkins_by};
 ghost use Rattle.model_rows.specs.Passages.{last_at};
 ghost use Rattle.model_rows.specs.Usage.{redeemed, spent, usage_of};
-ghost use Rattle.model_rows.specs.Change.{applied};
+ghost use Rattle.model_rows.specs.Change.{changes_applied};
 ghost use Rattle.model_rows.specs.Weight.{weight};
 ghost use Rattle.model_rows.specs.Headroom.{held};
 ghost use Rattle.model_rows.specs.Asked.{held_in};
@@ -21,7 +21,7 @@ ghost use Rattle.book_usage.specs.Naming.{naming, cart_ids_naming};
 ghost use Rattle.book_usage.specs.OfOrder.{count_ordered};
 ghost use Rattle.book_usage.specs.Waiters.{waiter_ids};
 ghost use Rattle.model_rows.specs.Kept.{IsKept};
-ghost use Rattle.model_rows.specs.Consumed.{consumed};
+ghost use Rattle.model_rows.specs.Consumed.{carts_consumed};
 
 use base_sorted::Sparse;
 use base_values::{List, Moment, Steps, Text};
@@ -120,7 +120,8 @@ pub trait Book {
 
     /// The ids of the cart positions of these carts, dead ones too, in order.
     fn carts_in(&self, alloc: Global, carts: &[Text]) -> Result<Vec<u64>, AllocError>
-        ensures { IfOk result (λ ids. ids.items ≡ consumed carts.now (state self.now).lists) };
+        ensures { IfOk result
+            (λ ids. ids.items ≡ carts_consumed carts.now (state self.now).lists) };
 
     /// The ids of the cart positions that name the voucher, dead ones too, in order.
     fn carts_naming(&self, alloc: Global, voucher: u64) -> Result<Vec<u64>, AllocError>
@@ -225,5 +226,5 @@ pub trait Book {
     fn apply(&mut self, changes: Changes, at: Moment)
         requires room { weight changes.list ≤ room self.old }
         requires moment { (state self.old).moment ≤ at }
-        ensures { state self.new ≡ applied changes at (state self.old) };
+        ensures { state self.new ≡ changes_applied changes at (state self.old) };
 }

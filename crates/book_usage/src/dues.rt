@@ -1,7 +1,7 @@
 //! A book with whose counts a file is kept.
 
 ghost use Rattle.std.specs.Prelude.{◌≡◌, ◌≤◌, IfOk};
-ghost use Rattle.model_rows.specs.Change.{applied};
+ghost use Rattle.model_rows.specs.Change.{changes_applied};
 ghost use Rattle.model_rows.specs.Weight.{weight};
 ghost use Rattle.book_usage.specs.Dues.{carts_ended_by, vouchers_ended_by, counts_of_changes};
 
@@ -27,5 +27,5 @@ pub trait Dues: Book {
         requires room { weight changes.list ≤ Self.room self.old }
         requires moment { (Self.state self.old).moment ≤ at }
         requires counts { counts.now ≡ counts_of_changes changes at (Self.state self.old) }
-        ensures { Self.state self.new ≡ applied changes at (Self.state self.old) };
+        ensures { Self.state self.new ≡ changes_applied changes at (Self.state self.old) };
 }

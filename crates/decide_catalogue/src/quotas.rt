@@ -1,7 +1,7 @@
 //! New quotas, and resized ones.
 
 ghost use Rattle.model_catalogue.specs.QuotaAdded.{quota_added, quota_test};
-ghost use Rattle.model_catalogue.specs.Resized.{resized};
+ghost use Rattle.model_catalogue.specs.Resized.{quota_resized};
 ghost use Rattle.decide_catalogue.specs.GoesBy.{GoesBy};
 
 use crate::members::{items_fit, items_stand, variations_fit, variations_stand};
@@ -17,7 +17,7 @@ pub fn resize(
     id: u64,
     patch: QuotaPatch,
 ) -> Result<Quota, CatalogueRefusal>
-    ensures { GoesBy (resized id patch catalogue.now.lists) result }
+    ensures { GoesBy (quota_resized id patch catalogue.now.lists) result }
 {
     match catalogue.quota(id) {
         None => Err(CatalogueRefusal::NoQuota),

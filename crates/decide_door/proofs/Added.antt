@@ -11,7 +11,7 @@ use Rattle.model_rows.specs.declared.changes.Change.TheVariants.{PutCheckinList}
 use Rattle.model_rows.specs.Lists.{State}
 use Rattle.model_rows.specs.Full.{takes_checkin_list}
 use Rattle.model_rows.specs.Numbered.{with_checkin_list}
-use Rattle.model_rows.specs.Takes.{used}
+use Rattle.model_rows.specs.Takes.{places_used}
 use Rattle.model_rows.specs.Total.{total}
 use Rattle.model_rows.proofs.Lowers.{checkin_list_apart}
 use Rattle.model_invariant.specs.Checkins.{has_item, HasItems}
@@ -81,8 +81,8 @@ module _ (new : NewCheckinList) (before after : State) (row : CheckinList) where
       })
 
   -- no quota is used otherwise
-  pub added_used : (quota : Quota) → Gives (list_added new before) → used after quota ≡ used before quota
-  added_used quota h = ap (λ (s : State). used s quota) (sym (added_is h).is_after) ∙ ap total (checkin_list_apart row before.lists before.moment quota)
+  pub added_used : (quota : Quota) → Gives (list_added new before) → places_used after quota ≡ places_used before quota
+  added_used quota h = ap (λ (s : State). places_used s quota) (sym (added_is h).is_after) ∙ ap total (checkin_list_apart row before.lists before.moment quota)
 
   -- the box office stays sound
   pub added_sound : IsFitCheckinList new → IsSound before → Gives (list_added new before) → IsSound after

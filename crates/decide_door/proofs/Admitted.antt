@@ -28,7 +28,7 @@ use Rattle.decide_door.specs.declared.verdict.Admission.{Admission}
 use Rattle.decide_door.specs.declared.verdict.Admission.TheVariants.{Again, New}
 use Rattle.decide_door.specs.Verdict.{shown_by, is_stored}
 use Rattle.decide_door.specs.Valid.{IsValid}
-use Rattle.decide_door.specs.Scanned.{checkin_row, stored, let_through, verdict_of, scanned, puts_by, scan_puts}
+use Rattle.decide_door.specs.Scanned.{checkin_row, checkin_stored, let_through, verdict_of, ticket_scanned, puts_by, scan_puts}
 use Rattle.decide_door.proofs.Judged.{IsEither, IsJudged, judged_is}
 use Rattle.model_invariant.proofs.SoundDoors.{sound_checkin}
 
@@ -73,7 +73,7 @@ module _ (list : ℕ) (ticket : Ticket) (scan : Scan) (before after : State) (po
   id_of : (a : Admission) (j : IsVerdict a) → j.list.id ≡ list
   id_of a j = key-row_at (λ (r : CheckinList). r.id) list before.lists.checkin_lists j.list j.found_it
 
-  put_new : (p : OrderPos) → is_stored list p.id scan.nonce before.lists.checkins ≡ false → Gives (stored (checkin_row list p scan before) p before) → (p ≡ position) × IsNew list scan before after position
+  put_new : (p : OrderPos) → is_stored list p.id scan.nonce before.lists.checkins ≡ false → Gives (checkin_stored (checkin_row list p scan before) p before) → (p ≡ position) × IsNew list scan before after position
   put_new p unstored h =
       let (takes, h1) = passed (takes_checkin before) _ _ h in
       let same = gave_it (with_checkin (checkin_row list p scan before) before, p) (after, position) h1 in
@@ -113,13 +113,13 @@ module _ (list : ℕ) (ticket : Ticket) (scan : Scan) (before after : State) (po
               let r = put_new p unstored h in
               (admitted_by (New p) j (q ∙ r.0), inr r.1)
 
-  pub admitted_is : Gives (scanned list ticket scan before) → Is
-  unfolding scanned
+  pub admitted_is : Gives (ticket_scanned list ticket scan before) → Is
+  unfolding ticket_scanned
   admitted_is h =
       let (admission, e, h1) = gave (verdict_of list ticket scan before) _ h in
       by_admission admission e h1
 
-  pub admitted_moment : Gives (scanned list ticket scan before) → after.moment ≡ before.moment
+  pub admitted_moment : Gives (ticket_scanned list ticket scan before) → after.moment ≡ before.moment
   admitted_moment h = by_case (admitted_is h).1
     where
       by_case : IsEitherOf list scan before after position → after.moment ≡ before.moment
@@ -142,7 +142,7 @@ module _ (list : ℕ) (ticket : Ticket) (scan : Scan) (before after : State) (po
       by_moment (Some at) is = is
 
   -- the box office stays sound
-  pub admitted_sound : IsFitScan scan → IsSound before → Gives (scanned list ticket scan before) → IsSound after
+  pub admitted_sound : IsFitScan scan → IsSound before → Gives (ticket_scanned list ticket scan before) → IsSound after
   admitted_sound fit sound h = by_case (admitted_is h)
     where
       by_case : Is → IsSound after
@@ -150,8 +150,8 @@ module _ (list : ℕ) (ticket : Ticket) (scan : Scan) (before after : State) (po
       by_case (a, inr new) = subst IsSound new.is_after (sound_checkin before (checkin_row list position scan before) refl (takes_it before.next.checkin before.lists.checkins new.takes) (admitted_rows sound a) new.unstored (admitted_limits fit sound) sound)
 
   -- its changes can be made at once, and lead there
-  pub admitted_leads : IsFitScan scan → IsSound before → Gives (scanned list ticket scan before) → LeadTo (scan_puts list ticket scan before) before.lists after.lists
-  unfolding scanned scan_puts
+  pub admitted_leads : IsFitScan scan → IsSound before → Gives (ticket_scanned list ticket scan before) → LeadTo (scan_puts list ticket scan before) before.lists after.lists
+  unfolding ticket_scanned scan_puts
   admitted_leads fit sound h =
       let (admission, e, h1) = gave (verdict_of list ticket scan before) _ h in
       subst (λ (v : Result Admission DoorRefusal). LeadTo (puts_by list scan before v) before.lists after.lists) (sym e) (by_admission_leads admission h1 (admitted_sound fit sound h))

@@ -24,7 +24,7 @@ use Rattle.model_commands.specs.declared.doors.DoorRefusal.{DoorRefusal}
 use Rattle.decide_door.specs.declared.verdict.Admission.{Admission}
 use Rattle.decide_door.specs.Verdict.{shown_by, is_in_force_if, is_unpaid, is_unpaid_if, is_stored}
 use Rattle.decide_door.specs.Valid.{IsValid, IsStillGood}
-use Rattle.decide_door.specs.Scanned.{checkin_row, let_through, scanned}
+use Rattle.decide_door.specs.Scanned.{checkin_row, let_through, ticket_scanned}
 use Rattle.decide_door.proofs.Judged.{again_is}
 use Rattle.decide_door.proofs.Admitted.{IsEitherOf, admitted_is, admitted_sound}
 
@@ -74,7 +74,7 @@ same_as_itself (Some nonce) h = same_bytes nonce
 
 module _ (list : ℕ) (ticket : Ticket) (scan : Scan) (before after : State) (position : OrderPos) where
   -- a scan with a nonce that is let through leaves a check-in with it
-  pub scan_stores : is_some scan.nonce ≡ true → scanned list ticket scan before ≡ Ok (after, position) → is_stored list position.id scan.nonce after.lists.checkins ≡ true
+  pub scan_stores : is_some scan.nonce ≡ true → ticket_scanned list ticket scan before ≡ Ok (after, position) → is_stored list position.id scan.nonce after.lists.checkins ≡ true
   scan_stores given h = by_case (admitted_is list ticket scan before after position h).1
     where
       by_case : IsEitherOf list scan before after position → is_stored list position.id scan.nonce after.lists.checkins ≡ true
@@ -85,7 +85,7 @@ module _ (list : ℕ) (ticket : Ticket) (scan : Scan) (before after : State) (po
           (any_put (λ c. c.list == list && (c.position == position.id && same_nonce c.nonce scan.nonce)) (checkin_row list position scan before) before.lists.checkins passes)
 
   -- what is stored stays so
-  pub stays_stored : (at p : ℕ) (nonce : Option (List ℕ)) → is_stored at p nonce before.lists.checkins ≡ true → scanned list ticket scan before ≡ Ok (after, position) → IsSound before → is_stored at p nonce after.lists.checkins ≡ true
+  pub stays_stored : (at p : ℕ) (nonce : Option (List ℕ)) → is_stored at p nonce before.lists.checkins ≡ true → ticket_scanned list ticket scan before ≡ Ok (after, position) → IsSound before → is_stored at p nonce after.lists.checkins ≡ true
   stays_stored at p nonce stored h sound = by_case (admitted_is list ticket scan before after position h).1
     where
       by_case : IsEitherOf list scan before after position → is_stored at p nonce after.lists.checkins ≡ true
@@ -94,12 +94,12 @@ module _ (list : ℕ) (ticket : Ticket) (scan : Scan) (before after : State) (po
           subst (λ (s : State). is_stored at p nonce s.lists.checkins ≡ true) new.is_after
           (any_still (λ c. c.list == at && (c.position == p && same_nonce c.nonce nonce)) (checkin_row list position scan before) before.lists.checkins sound.ids.checkins.below stored)
 
-  pub once_after : IsFitScan scan → IsSound before → scanned list ticket scan before ≡ Ok (after, position) → AreOnce after.lists.checkins
+  pub once_after : IsFitScan scan → IsSound before → ticket_scanned list ticket scan before ≡ Ok (after, position) → AreOnce after.lists.checkins
   once_after fit sound h = (admitted_sound list ticket scan before after position fit sound h).door.nonces
 
 -- while it is stored, it is let through again, and nothing changes
-pub scan_again : (list : CheckinList) (ticket : Ticket) (scan : Scan) (state : State) (position : OrderPos) → checkin_list_at list.id state.lists ≡ Some list → shown_by ticket state.lists ≡ Some position → IsValid list position scan state.lists → is_stored list.id position.id scan.nonce state.lists.checkins ≡ true → scanned list.id ticket scan state ≡ Ok (state, position)
-unfolding scanned
+pub scan_again : (list : CheckinList) (ticket : Ticket) (scan : Scan) (state : State) (position : OrderPos) → checkin_list_at list.id state.lists ≡ Some list → shown_by ticket state.lists ≡ Some position → IsValid list position scan state.lists → is_stored list.id position.id scan.nonce state.lists.checkins ≡ true → ticket_scanned list.id ticket scan state ≡ Ok (state, position)
+unfolding ticket_scanned
 scan_again list ticket scan state position found shown valid stored = rw (found, shown) (ap (λ (v : Result Admission DoorRefusal). v >>= (λ a. let_through list.id scan state a)) (again_is scan state.lists list position valid stored))
 
 paid_in_force : (status : Status) → is_paid status ≡ true → is_in_force status ≡ true
@@ -132,11 +132,11 @@ valid_still list position scan before after good valid = record {
 
 -- a scan with a nonce that was let through is let through again and changes nothing, whatever came between: the list and the
 -- position stand, the check-in is stored, and the order stands as it did, or is paid
-pub scan_repeated : (list : ℕ) (ticket : Ticket) (scan : Scan) (before after later : State) (position : OrderPos) → scanned list ticket scan before ≡ Ok (after, position)
+pub scan_repeated : (list : ℕ) (ticket : Ticket) (scan : Scan) (before after later : State) (position : OrderPos) → ticket_scanned list ticket scan before ≡ Ok (after, position)
     → checkin_list_at list later.lists ≡ checkin_list_at list before.lists → shown_by ticket later.lists ≡ Some position → IsStillGood position.order before.lists later.lists
-    → is_stored list position.id scan.nonce later.lists.checkins ≡ true → scanned list ticket scan later ≡ Ok (later, position)
+    → is_stored list position.id scan.nonce later.lists.checkins ≡ true → ticket_scanned list ticket scan later ≡ Ok (later, position)
 scan_repeated list ticket scan before after later position h same shown good stored =
     let a = (admitted_is list ticket scan before after position h).0 in
     let id : a.by.id ≡ list = key-row_at (λ (r : CheckinList). r.id) list before.lists.checkin_lists a.by a.found in
-    subst (λ (n : ℕ). scanned n ticket scan later ≡ Ok (later, position)) id
+    subst (λ (n : ℕ). ticket_scanned n ticket scan later ≡ Ok (later, position)) id
     (scan_again a.by ticket scan later position (ap (λ (n : ℕ). checkin_list_at n later.lists) id ∙ same ∙ a.found) shown (valid_still a.by position scan before.lists later.lists good a.valid) (subst (λ (n : ℕ). is_stored n position.id scan.nonce later.lists.checkins ≡ true) (sym id) stored))

@@ -15,7 +15,7 @@ use Rattle.model_rows.specs.Passages.{is_entry, passage, later, last_after}
 use Rattle.model_commands.specs.declared.doors.DoorStatus.{DoorStatus}
 use Rattle.decide_door.specs.declared.stays.Stay.{Stay}
 use Rattle.decide_door.specs.Last.{is_of, checkins_of, has_entry}
-use Rattle.decide_door.specs.Stays.{no_stay, noted, noted_all, stays_inside, counts_of}
+use Rattle.decide_door.specs.Stays.{no_stay, checkin_noted, noted_all, stays_inside, counts_of}
 use Rattle.decide_door.specs.Belongs.{belongs, belonging}
 use Rattle.decide_door.specs.Status.{has_entered, is_inside, status_of}
 
@@ -23,16 +23,16 @@ module _ (list : ℕ) (checkin : Checkin) where
   abbrev noted_by : Stay → Bool → Stay
   noted_by s b = if b then record { position = s.position; entered = s.entered || is_entry checkin.kind; last = Some (later s.last (passage checkin)) } else s
 
-  pub noted_position : (s : Stay) → (noted list checkin s).position ≡ s.position
-  unfolding noted
+  pub noted_position : (s : Stay) → (checkin_noted list checkin s).position ≡ s.position
+  unfolding checkin_noted
   noted_position s = by_test (is_of list s.position checkin)
     where
       by_test : (b : Bool) → (noted_by s b).position ≡ s.position
       by_test true = refl
       by_test false = refl
 
-  pub noted_apart : (s : Stay) → s.position ≢ checkin.position → noted list checkin s ≡ s
-  unfolding noted
+  pub noted_apart : (s : Stay) → s.position ≢ checkin.position → checkin_noted list checkin s ≡ s
+  unfolding checkin_noted
   noted_apart s apart = by_test (is_of list s.position checkin) refl
     where
       by_test : (b : Bool) → is_of list s.position checkin ≡ b → noted_by s b ≡ s
@@ -40,14 +40,14 @@ module _ (list : ℕ) (checkin : Checkin) where
       by_test false e = refl
 
   -- what a check-in changes at its place
-  pub noted_here : (rows : List Stay) (i : ℕ) (d : Stay) → AreInOrder (λ s. s.position) rows → IsPlace (λ s. s.position) rows checkin.position i → set rows i (noted list checkin (get_or rows i d)) ≡ map (noted list checkin) rows
-  noted_here rows i d h p = map_set (λ (s : Stay). s.position) (noted list checkin) checkin.position noted_apart 0 rows i d h p
+  pub noted_here : (rows : List Stay) (i : ℕ) (d : Stay) → AreInOrder (λ s. s.position) rows → IsPlace (λ s. s.position) rows checkin.position i → set rows i (checkin_noted list checkin (get_or rows i d)) ≡ map (checkin_noted list checkin) rows
+  noted_here rows i d h p = map_set (λ (s : Stay). s.position) (checkin_noted list checkin) checkin.position noted_apart 0 rows i d h p
 
-  pub noted_nowhere : (rows : List Stay) → row_at (λ s. s.position) checkin.position rows ≡ None → map (noted list checkin) rows ≡ rows
-  noted_nowhere rows e = map_absent (λ (s : Stay). s.position) (noted list checkin) checkin.position noted_apart rows e
+  pub noted_nowhere : (rows : List Stay) → row_at (λ s. s.position) checkin.position rows ≡ None → map (checkin_noted list checkin) rows ≡ rows
+  noted_nowhere rows e = map_absent (λ (s : Stay). s.position) (checkin_noted list checkin) checkin.position noted_apart rows e
 
-  pub noted_in_order : (rows : List Stay) → AreInOrder (λ s. s.position) rows → AreInOrder (λ s. s.position) (map (noted list checkin) rows)
-  noted_in_order rows h = mapped_in_order (λ (s : Stay). s.position) (λ (s : Stay). s.position) (noted list checkin) noted_position 0 rows h
+  pub noted_in_order : (rows : List Stay) → AreInOrder (λ s. s.position) rows → AreInOrder (λ s. s.position) (map (checkin_noted list checkin) rows)
+  noted_in_order rows h = mapped_in_order (λ (s : Stay). s.position) (λ (s : Stay). s.position) (checkin_noted list checkin) noted_position 0 rows h
 
 -- what is known of a position after all check-ins
 or_more : (a b c : Bool) → ((a || b) || c) ≡ (a || (b || c))
@@ -73,7 +73,7 @@ module _ (list : ℕ) (c : Checkin) (cs : List Checkin) (more : (t : Stay) → n
   after_one false = more s
 
 noted_all_is : (list : ℕ) (cs : List Checkin) (s : Stay) → noted_all list cs s ≡ stay_after list cs s
-unfolding noted
+unfolding checkin_noted
 noted_all_is list [] s = ap (λ (b : Bool). let stay : Stay = record { position = s.position; entered = b; last = s.last } in stay) (sym (or_none s.entered))
 noted_all_is list (c ∷ cs) s = after_one list c cs (noted_all_is list cs) s (is_of list s.position c)
 

@@ -17,7 +17,7 @@ use Rattle.model_rows.specs.Numbered.{with_checkin}
 use Rattle.model_rows.specs.Change.{after_change}
 use Rattle.model_rows.specs.Passages.{is_entry, is_exit, is_out}
 use Rattle.model_rows.specs.Usage.{usage_of, stands_as, holds_place, takes_place}
-use Rattle.model_rows.specs.Takes.{used}
+use Rattle.model_rows.specs.Takes.{places_used}
 use Rattle.model_rows.specs.Total.{total}
 use Rattle.model_rows.proofs.EachRow.{next_absent}
 use Rattle.model_rows.proofs.Exits.{place_shift}
@@ -28,7 +28,7 @@ use Rattle.model_commands.specs.FitRequests.{IsFitScan}
 use Rattle.model_commands.specs.declared.doors.Scan.{Scan}
 use Rattle.model_commands.specs.declared.doors.Ticket.{Ticket}
 use Rattle.decide_door.specs.Places.{has_gone, IsReleasing}
-use Rattle.decide_door.specs.Scanned.{checkin_row, scanned}
+use Rattle.decide_door.specs.Scanned.{checkin_row, ticket_scanned}
 use Rattle.decide_door.proofs.Admitted.{IsEitherOf, shown_stands, admitted_is, admitted_sound}
 
 -- the place that a position takes, in the quota or not, by its order, where it is out or not, and the quota releases it or not
@@ -95,7 +95,7 @@ checkin_moves row lists at quota p new order stands =
 pub next_is_new : (state : State) → IsSound state → checkin_at state.next.checkin state.lists ≡ None
 next_is_new state sound = next_absent (λ (c : Checkin). c.id) state.next.checkin state.lists.checkins sound.ids.checkins.below
 
-module _ (list : ℕ) (ticket : Ticket) (scan : Scan) (before after : State) (position : OrderPos) (sound : IsSound before) (h : scanned list ticket scan before ≡ Ok (after, position)) where
+module _ (list : ℕ) (ticket : Ticket) (scan : Scan) (before after : State) (position : OrderPos) (sound : IsSound before) (h : ticket_scanned list ticket scan before ≡ Ok (after, position)) where
   abbrev row : Checkin
   row = checkin_row list position scan before
 
@@ -118,8 +118,8 @@ module _ (list : ℕ) (ticket : Ticket) (scan : Scan) (before after : State) (po
   place_in quota out = place (order_at position.order before.lists) (is_in quota position.product) quota.release_after_exit out
 
   -- its place before and after comes and goes
-  scan_moves : (quota : Quota) → used after quota + place_in quota (has_gone position before) ≡ used before quota + place_in quota (has_gone position after)
-  scan_moves quota = in_either (λ s. used s quota + place_in quota (has_gone position before) ≡ used before quota + place_in quota (has_gone position s)) refl (checkin_moves row before.lists before.moment quota position new_id sound.ids.positions.in_order shown)
+  scan_moves : (quota : Quota) → places_used after quota + place_in quota (has_gone position before) ≡ places_used before quota + place_in quota (has_gone position after)
+  scan_moves quota = in_either (λ s. places_used s quota + place_in quota (has_gone position before) ≡ places_used before quota + place_in quota (has_gone position s)) refl (checkin_moves row before.lists before.moment quota position new_id sound.ids.positions.in_order shown)
 
   stays_out : is_exit scan.kind ≡ true → has_gone position before ≡ true → has_gone position after ≡ true
   stays_out exit out = in_either (λ s. has_gone position s ≡ true) out (exit_keeps_out position.id row before.lists.checkins new_id exit out)
@@ -128,38 +128,38 @@ module _ (list : ℕ) (ticket : Ticket) (scan : Scan) (before after : State) (po
   stays_in entry inside = in_either (λ s. has_gone position s ≡ false) inside (entry_keeps_in position.id row before.lists.checkins new_id entry inside)
 
   -- a ticket that is in or out as it was
-  pub unmoved_used : (quota : Quota) → has_gone position after ≡ has_gone position before → used after quota ≡ used before quota
+  pub unmoved_used : (quota : Quota) → has_gone position after ≡ has_gone position before → places_used after quota ≡ places_used before quota
   unmoved_used quota same = omega (arith, scan_moves quota, ap (λ (b : Bool). place_in quota b) same)
 
   -- a quota that keeps its places
-  pub kept_used : (quota : Quota) → quota.release_after_exit ≡ false → used after quota ≡ used before quota
+  pub kept_used : (quota : Quota) → quota.release_after_exit ≡ false → places_used after quota ≡ places_used before quota
   kept_used quota closed = omega (arith, scan_moves quota, kept_place (order_at position.order before.lists) (is_in quota position.product) quota.release_after_exit (has_gone position before) (has_gone position after) closed)
 
   -- an exit
-  pub exit_used : (quota : Quota) → is_exit scan.kind ≡ true → used after quota ≤ used before quota
+  pub exit_used : (quota : Quota) → is_exit scan.kind ≡ true → places_used after quota ≤ places_used before quota
   exit_used quota exit = by_out (has_gone position before) refl
     where
-      by_out : (out : Bool) → has_gone position before ≡ out → used after quota ≤ used before quota
+      by_out : (out : Bool) → has_gone position before ≡ out → places_used after quota ≤ places_used before quota
       by_out true e = omega (arith, unmoved_used quota (stays_out exit e ∙ sym e))
       by_out false e = omega (arith, scan_moves quota, ap (λ (b : Bool). place_in quota b) e, out_takes_less (order_at position.order before.lists) (is_in quota position.product) quota.release_after_exit (has_gone position after))
 
   -- an entry, or an exit
-  pub entry_used : (quota : Quota) → used after quota ≤ used before quota + 1
+  pub entry_used : (quota : Quota) → places_used after quota ≤ places_used before quota + 1
   entry_used quota = omega (arith, scan_moves quota, place_is_one (order_at position.order before.lists) (is_in quota position.product) quota.release_after_exit (has_gone position after))
 
   -- an entry of who is in
-  pub inside_used : (quota : Quota) → is_entry scan.kind ≡ true → has_gone position before ≡ false → used after quota ≡ used before quota
+  pub inside_used : (quota : Quota) → is_entry scan.kind ≡ true → has_gone position before ≡ false → places_used after quota ≡ places_used before quota
   inside_used quota entry inside = unmoved_used quota (stays_in (entry_is_no_exit scan.kind entry) inside ∙ sym inside)
 
   paid_place_in : (quota : Quota) (out : Bool) → IsReleasing quota position before.lists → place_in quota out ≡ one (not out)
   paid_place_in quota out open_to = paid_place (order_at position.order before.lists) (is_in quota position.product) quota.release_after_exit out open_to.paid open_to.inside open_to.releases
 
   -- who goes out sets a place free
-  pub place_freed : (quota : Quota) → IsReleasing quota position before.lists → has_gone position before ≡ false → has_gone position after ≡ true → used after quota + 1 ≡ used before quota
+  pub place_freed : (quota : Quota) → IsReleasing quota position before.lists → has_gone position before ≡ false → has_gone position after ≡ true → places_used after quota + 1 ≡ places_used before quota
   place_freed quota releasing inside gone = omega (arith, scan_moves quota, paid_place_in quota (has_gone position before) releasing, paid_place_in quota (has_gone position after) releasing, ap (λ (b : Bool). one (not b)) inside, ap (λ (b : Bool). one (not b)) gone)
 
   -- who comes in again takes it back
-  pub place_taken_back : (quota : Quota) → IsReleasing quota position before.lists → has_gone position before ≡ true → has_gone position after ≡ false → used after quota ≡ used before quota + 1
+  pub place_taken_back : (quota : Quota) → IsReleasing quota position before.lists → has_gone position before ≡ true → has_gone position after ≡ false → places_used after quota ≡ places_used before quota + 1
   place_taken_back quota releasing gone inside = omega (arith, scan_moves quota, paid_place_in quota (has_gone position before) releasing, paid_place_in quota (has_gone position after) releasing, ap (λ (b : Bool). one (not b)) gone, ap (λ (b : Bool). one (not b)) inside)
 
   -- a scan leaves the orders
@@ -168,7 +168,7 @@ module _ (list : ℕ) (ticket : Ticket) (scan : Scan) (before after : State) (po
 
 -- what is used is told by where the ticket is, whatever scans it had in between
 pub both_used : (list other : ℕ) (ticket again : Ticket) (first second : Scan) (before between after : State) (position : OrderPos) (quota : Quota) → IsFitScan first → IsSound before
-    → scanned list ticket first before ≡ Ok (between, position) → scanned other again second between ≡ Ok (after, position) → has_gone position after ≡ has_gone position before → used after quota ≡ used before quota
+    → ticket_scanned list ticket first before ≡ Ok (between, position) → ticket_scanned other again second between ≡ Ok (after, position) → has_gone position after ≡ has_gone position before → places_used after quota ≡ places_used before quota
 both_used list other ticket again first second before between after position quota fit sound h k same =
     let sound_between = admitted_sound list ticket first before between position fit sound h in
     let once = scan_moves list ticket first before between position sound h quota in

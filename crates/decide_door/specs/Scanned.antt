@@ -22,23 +22,23 @@ abbrev pub checkin_row : ℕ → OrderPos → Scan → State → Checkin
 checkin_row list position scan state = record { id = state.next.checkin; list = list; position = position.id; kind = scan.kind; datetime = unwrap_or scan.datetime state.moment; nonce = scan.nonce }
 
 -- it is stored where the table takes it
-abbrev pub stored : Checkin → OrderPos → State → Result (State × OrderPos) DoorRefusal
-stored row position state = do
+abbrev pub checkin_stored : Checkin → OrderPos → State → Result (State × OrderPos) DoorRefusal
+checkin_stored row position state = do
   check (takes_checkin state) (Catalogue Full)
   Ok (with_checkin row state, position)
 
 -- who is let through anew is stored, and who was let through before isn't again
 abbrev pub let_through : ℕ → Scan → State → Admission → Result (State × OrderPos) DoorRefusal
 let_through list scan state (Again position) = Ok (state, position)
-let_through list scan state (New position) = stored (checkin_row list position scan state) position state
+let_through list scan state (New position) = checkin_stored (checkin_row list position scan state) position state
 
 -- the verdict on this scan
 abbrev pub verdict_of : ℕ → Ticket → Scan → State → Result Admission DoorRefusal
 verdict_of list ticket scan state = verdict (checkin_list_at list state.lists) (shown_by ticket state.lists) scan state.lists
 
 -- the box office with the check-in, if it is a new one, and the position, or the first refusal
-unfoldable pub scanned : ℕ → Ticket → Scan → State → Result (State × OrderPos) DoorRefusal
-scanned list ticket scan state = do
+unfoldable pub ticket_scanned : ℕ → Ticket → Scan → State → Result (State × OrderPos) DoorRefusal
+ticket_scanned list ticket scan state = do
   admission ← verdict_of list ticket scan state
   let_through list scan state admission
 

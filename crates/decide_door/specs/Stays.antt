@@ -19,13 +19,13 @@ abbrev pub no_stays : CheckinList → Lists → List Stay
 no_stays list lists = map no_stay (belonging list lists)
 
 -- with one more check-in, where it is of the position, by the list
-unfoldable pub noted : ℕ → Checkin → Stay → Stay
-noted list checkin stay = if is_of list stay.position checkin then record { position = stay.position; entered = stay.entered || is_entry checkin.kind; last = Some (later stay.last (passage checkin)) } else stay
+unfoldable pub checkin_noted : ℕ → Checkin → Stay → Stay
+checkin_noted list checkin stay = if is_of list stay.position checkin then record { position = stay.position; entered = stay.entered || is_entry checkin.kind; last = Some (later stay.last (passage checkin)) } else stay
 
 -- with one check-in after another
 abbrev pub noted_all : ℕ → List Checkin → Stay → Stay
 noted_all list [] stay = stay
-noted_all list (c ∷ cs) stay = noted_all list cs (noted list c stay)
+noted_all list (c ∷ cs) stay = noted_all list cs (checkin_noted list c stay)
 
 -- the last check-in is an entry
 abbrev pub stays_inside : Stay → Bool

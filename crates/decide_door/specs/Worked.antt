@@ -11,7 +11,7 @@ use Rattle.model_commands.specs.declared.doors.DoorRefusal.{DoorRefusal}
 use Rattle.model_commands.specs.declared.doors.Scan.{Scan}
 use Rattle.model_commands.specs.declared.doors.Ticket.{Ticket}
 use Rattle.model_commands.specs.declared.doors.Ticket.TheVariants.{Position, Secret}
-use Rattle.decide_door.specs.Scanned.{scanned}
+use Rattle.decide_door.specs.Scanned.{ticket_scanned}
 
 -- a list for all items, which may include pending orders and allow an entry after an exit
 abbrev pub door : Bool → Bool → CheckinList
@@ -70,33 +70,33 @@ abbrev pub forced_entry : Scan
 forced_entry = record (scan Entry None) { force = true }
 
 -- a check-in of the ticket: its id, its list, its kind, its nonce and its moment
-abbrev pub passed : ℕ → ℕ → CheckinKind → Option (List ℕ) → ℕ → Checkin
-passed id list kind nonce at = record { id = id; list = list; position = 1; kind = kind; datetime = at; nonce = nonce }
+abbrev pub ticket_passed : ℕ → ℕ → CheckinKind → Option (List ℕ) → ℕ → Checkin
+ticket_passed id list kind nonce at = record { id = id; list = list; position = 1; kind = kind; datetime = at; nonce = nonce }
 
 -- by list 1 the ticket comes in
 abbrev pub first_in : Checkin
-first_in = passed 1 1 Entry (nonce 1) 1000
+first_in = ticket_passed 1 1 Entry (nonce 1) 1000
 
 -- then it goes out by list 1
 abbrev pub then_out : Checkin
-then_out = passed 2 1 Exit (nonce 3) 1000
+then_out = ticket_passed 2 1 Exit (nonce 3) 1000
 
 -- it comes in by list 2
 abbrev pub elsewhere_in : Checkin
-elsewhere_in = passed 1 2 Entry (nonce 1) 1000
+elsewhere_in = ticket_passed 1 2 Entry (nonce 1) 1000
 
 -- check-in 1, by list 1, is an entry at this moment
 abbrev pub in_at : ℕ → Checkin
-in_at moment = passed 1 1 Entry None moment
+in_at moment = ticket_passed 1 1 Entry None moment
 
 -- check-in 2, by list 1, is an exit at this moment
 abbrev pub out_at : ℕ → Checkin
-out_at moment = passed 2 1 Exit None moment
+out_at moment = ticket_passed 2 1 Exit None moment
 
 -- the house's list 1, over an order of this status and with these check-ins, lets the ticket through; these check-ins are stored then
 abbrev pub Admits : CheckinList → Status → List Checkin → Ticket → Scan → List Checkin → Type 0
-Admits list status checkins ticket scan stored = scanned 1 ticket scan (house status list checkins) ≡ Ok (house status list stored, seat)
+Admits list status checkins ticket scan stored = ticket_scanned 1 ticket scan (house status list checkins) ≡ Ok (house status list stored, seat)
 
 -- it refuses the ticket
 abbrev pub Refuses : CheckinList → Status → List Checkin → Ticket → Scan → DoorRefusal → Type 0
-Refuses list status checkins ticket scan refusal = scanned 1 ticket scan (house status list checkins) ≡ Err refusal
+Refuses list status checkins ticket scan refusal = ticket_scanned 1 ticket scan (house status list checkins) ≡ Err refusal

@@ -6,7 +6,7 @@ ghost use Rattle.draft_changes.specs.Decides.{DecidesBy};
 ghost use Rattle.draft_changes.specs.DraftState.{now};
 ghost use Rattle.model_rows.specs.declared.changes.Change.TheVariants.{PutCheckin};
 ghost use Rattle.model_rows.specs.Lists.{checkin_at};
-ghost use Rattle.decide_door.specs.Scanned.{checkin_row, stored, scanned, scan_puts};
+ghost use Rattle.decide_door.specs.Scanned.{checkin_row, checkin_stored, ticket_scanned, scan_puts};
 
 use crate::verdict::{Admission, judge};
 use book_usage::Book;
@@ -23,7 +23,7 @@ use std::alloc::{AllocError, Global};
 /// cancelled; 53 `Product`, the list isn't for its item; 54 `Unpaid`, its order is pending, which takes `force`, or
 /// `ignore_unpaid` and a list that includes pending orders; 55 `AlreadyRedeemed`, an entry after another one, which
 /// takes `force`, or a list that allows several or one after an exit; 16 `Full`. 6 `Memory` may come anywhere.
-#[tactic(auto, unfolding(crate::specs::Scanned::scanned, crate::specs::Scanned::scan_puts))]
+#[tactic(auto, unfolding(crate::specs::Scanned::ticket_scanned, crate::specs::Scanned::scan_puts))]
 pub fn redeem<B: Book>(
     draft: &mut Draft<'_, B>,
     alloc: Global,
@@ -34,7 +34,7 @@ pub fn redeem<B: Book>(
     requires positions { (now draft.old).lists.positions ≡ draft.old.log.base.positions }
     requires checkins { (now draft.old).lists.checkins ≡ draft.old.log.base.checkins }
     requires new { checkin_at (now draft.old).next.checkin (now draft.old).lists ≡ None }
-    ensures { DecidesBy Memory (scanned list ticket.now scan.now)
+    ensures { DecidesBy Memory (ticket_scanned list ticket.now scan.now)
         (λ _. scan_puts list ticket.now scan.now (now draft.old))
         draft.old draft.new result }
 {
@@ -80,7 +80,7 @@ fn store<B: Book>(
 ) -> Result<OrderPos, DoorRefusal>
     requires checkins { (now draft.old).lists.checkins ≡ draft.old.log.base.checkins }
     requires new { checkin_at row.id (now draft.old).lists ≡ None }
-    ensures { DecidesBy Memory (stored row position) (λ _. PutCheckin row ∷ [])
+    ensures { DecidesBy Memory (checkin_stored row position) (λ _. PutCheckin row ∷ [])
         draft.old draft.new result }
 {
     if !draft.takes_checkin() {

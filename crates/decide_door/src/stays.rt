@@ -2,7 +2,7 @@
 
 ghost use Rattle.std.specs.Prelude.{◌≡◌, IfOk, map};
 ghost use Rattle.base_sorted.specs.Tables.{AreInOrder};
-ghost use Rattle.decide_door.specs.Stays.{no_stay, noted, noted_all, stays_inside, counts_of, no_stays};
+ghost use Rattle.decide_door.specs.Stays.{no_stay, checkin_noted, noted_all, stays_inside, counts_of, no_stays};
 ghost use Rattle.decide_door.specs.Status.{status_of};
 
 use crate::listing::belongs;
@@ -99,18 +99,18 @@ fn note_all(stays: &mut Vec<Stay>, list: u64, checkins: &[Checkin])
 fn note(stays: &mut Vec<Stay>, list: u64, checkin: &Checkin)
     requires { AreInOrder (λ s. s.position) stays.old.items }
     ensures order { AreInOrder (λ s. s.position) stays.new.items }
-    ensures noted { stays.new.items ≡ map (noted list checkin.now) stays.old.items }
+    ensures noted { stays.new.items ≡ map (checkin_noted list checkin.now) stays.old.items }
 {
     if let Ok(at) = place_of(stays, checkin.position) {
         let stay = stays[at];
-        stays[at] = noted(stay, list, checkin);
+        stays[at] = checkin_noted(stay, list, checkin);
     }
 }
 
 // With one more check-in, where it is of the position, by the list.
-#[tactic(auto, unfolding(crate::specs::Stays::noted))]
-fn noted(stay: Stay, list: u64, checkin: &Checkin) -> Stay
-    ensures { result ≡ noted list checkin.now stay }
+#[tactic(auto, unfolding(crate::specs::Stays::checkin_noted))]
+fn checkin_noted(stay: Stay, list: u64, checkin: &Checkin) -> Stay
+    ensures { result ≡ checkin_noted list checkin.now stay }
 {
     if !is_of(checkin, list, stay.position) {
         return stay;

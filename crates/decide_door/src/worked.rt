@@ -5,9 +5,9 @@ ghost use Rattle.model_rows.specs.declared.rows.Status.TheVariants.{Pending, Pai
 ghost use Rattle.model_rows.specs.declared.rows.CheckinKind.TheVariants.{Entry, Exit};
 ghost use Rattle.model_commands.specs.declared.doors.DoorRefusal.TheVariants.{Invalid, Canceled, Unpaid, AlreadyRedeemed};
 ghost use Rattle.model_commands.specs.declared.doors.Ticket.TheVariants.{Position};
-ghost use Rattle.decide_door.specs.Scanned.{scanned};
+ghost use Rattle.decide_door.specs.Scanned.{ticket_scanned};
 ghost use Rattle.decide_door.specs.Status.{status_of, tickets_of};
-ghost use Rattle.decide_door.specs.Worked.{plain, pending_list, return_list, seat, by_id, by_secret, house, nonce, scan, entry_with, lenient_entry, forced_entry, passed, first_in, then_out, elsewhere_in, in_at, out_at, Admits, Refuses};
+ghost use Rattle.decide_door.specs.Worked.{plain, pending_list, return_list, seat, by_id, by_secret, house, nonce, scan, entry_with, lenient_entry, forced_entry, ticket_passed, first_in, then_out, elsewhere_in, in_at, out_at, Admits, Refuses};
 
 /// A ticket enters with a nonce: one row. The same scan again adds none; one with another nonce finds the ticket
 /// redeemed; it may leave; and it enters again only where the list allows that after an exit.
@@ -20,8 +20,9 @@ pub fn a_ticket_enters_once()
     ensures stays_out { Refuses plain Paid (first_in ∷ then_out ∷ []) by_id (entry_with 4)
         AlreadyRedeemed }
     ensures comes_back { Admits return_list Paid (first_in ∷ then_out ∷ []) by_id (entry_with 4)
-        (first_in ∷ then_out ∷ passed 3 1 Entry (nonce 4) 1000 ∷ []) }
-    ensures unknown { scanned 1 (Position 9) (scan Entry None) (house Paid plain []) ≡ Err Invalid }
+        (first_in ∷ then_out ∷ ticket_passed 3 1 Entry (nonce 4) 1000 ∷ []) }
+    ensures unknown { ticket_scanned 1 (Position 9) (scan Entry None) (house Paid plain [])
+        ≡ Err Invalid }
 {}
 
 /// An exit of an earlier moment that is stored later isn't the last: the ticket is inside. Of one moment the greater id
@@ -44,8 +45,8 @@ pub fn orders_have_to_be_paid()
     ensures not_included { Refuses plain Pending [] by_id lenient_entry Unpaid }
     ensures forced { Admits plain Pending [] by_id forced_entry (in_at 1000 ∷ []) }
     ensures other_list { Admits plain Paid (elsewhere_in ∷ []) by_id (entry_with 1)
-        (elsewhere_in ∷ passed 2 1 Entry (nonce 1) 1000 ∷ []) }
+        (elsewhere_in ∷ ticket_passed 2 1 Entry (nonce 1) 1000 ∷ []) }
     ensures cancelled { Refuses plain Cancelled (first_in ∷ []) by_id (entry_with 1) Canceled }
     ensures twice { Admits plain Paid (in_at 1000 ∷ []) by_id forced_entry
-        (in_at 1000 ∷ passed 2 1 Entry None 1000 ∷ []) }
+        (in_at 1000 ∷ ticket_passed 2 1 Entry None 1000 ∷ []) }
 {}

@@ -25,7 +25,7 @@ use Rattle.decide_orders.proofs.Takes.{takes_no_more}
 use Rattle.model_commands.specs.FitRequests.{IsFitCart}
 use Rattle.model_commands.specs.declared.carts.NewCart.{NewCart}
 use Rattle.model_commands.specs.declared.orders.OrderRefusal.TheVariants.{Voucher as OfVoucher}
-use Rattle.decide_orders.specs.Carts.{position_added, placed, has_use_for, cart_row, row_of_sold}
+use Rattle.decide_orders.specs.Carts.{position_added, cart_placed, has_use_for, cart_row, row_of_sold}
 use Rattle.decide_orders.specs.Sold.{sold_for}
 use Rattle.decide_orders.proofs.Limited.{cart_limited}
 use Rattle.decide_orders.proofs.SoldLemmas.{sold_fits, sold_is_product}
@@ -53,7 +53,7 @@ pub record IsAdded (new : NewCart) (draw : Draw) (before after : State) (row : C
 
 module _ (new : NewCart) (draw : Draw) (before after : State) (row : CartPos) where
   pub added_is : position_added new draw before ≡ Ok (after, row) → IsAdded new draw before after row
-  unfolding position_added placed
+  unfolding position_added cart_placed
   added_is h =
       let (r, asked, h1) = gave (cart_row new draw before) _ h in
       let (left, h2) = passed (has_use_for r before) _ _ h1 in

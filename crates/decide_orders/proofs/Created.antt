@@ -20,8 +20,8 @@ use Rattle.model_rows.specs.Conditions.{is_in_force}
 use Rattle.model_rows.specs.Usage.{stands_as}
 use Rattle.model_rows.specs.Budgets.{are_within}
 use Rattle.model_rows.specs.Lists.{Lists, State, order_at}
-use Rattle.model_rows.specs.Change.{after_change, changed, without_carts}
-use Rattle.model_rows.specs.Consumed.{consumed}
+use Rattle.model_rows.specs.Change.{after_change, change_applied, without_carts}
+use Rattle.model_rows.specs.Consumed.{carts_consumed}
 use Rattle.model_rows.specs.Fits.{is_fit}
 use Rattle.model_rows.specs.Full.{takes_order, takes_positions}
 use Rattle.model_rows.specs.Headroom.{has_use}
@@ -146,7 +146,7 @@ module _ (lists : Lists) (number : ℕ) where
     pub stands : is_some (order_at number state.lists) ≡ true
     pub sound : IsSoundSoFar (numbered id state)
 
-  pub goes_on : (id : ℕ) (row : OrderPos) (state : State) → row.id ≡ id → IsOwn lists number row → has_own_secret row ≡ true → has_use state.moment state.lists row.voucher ≡ true → Takes id state.lists.positions → IsLimitedPosition row → Goes id state → Goes (id + 1) (changed (PutPosition row) state)
+  pub goes_on : (id : ℕ) (row : OrderPos) (state : State) → row.id ≡ id → IsOwn lists number row → has_own_secret row ≡ true → has_use state.moment state.lists row.voucher ≡ true → Takes id state.lists.positions → IsLimitedPosition row → Goes id state → Goes (id + 1) (change_applied (PutPosition row) state)
   goes_on id row state e own secret left takes limits g = record {
     catalogue = g.catalogue;
     vouchers = g.vouchers;
@@ -193,7 +193,7 @@ begins new draw before after made fit sound m = record {
 }
   where
     ids : List ℕ
-    ids = consumed new.consume_carts before.lists
+    ids = carts_consumed new.consume_carts before.lists
 
     id : made.order.id ≡ before.next.order
     id = sym (ap (λ (o : Order). o.id) m.is_order)
@@ -208,7 +208,7 @@ created_limited new draw before after made fit sixteen sound h m =
 pub created_sound : (new : NewOrder) (draw : Draw) (before after : State) (made : OrderRows) → IsFitOrder new → IsDraw draw → IsSound before → order_created new draw before ≡ Ok (after, made) → IsSound after
 created_sound new draw before after made fit sixteen sound h =
     let m = created_is new draw before after made h in
-    let ids = consumed new.consume_carts before.lists in
+    let ids = carts_consumed new.consume_carts before.lists in
     let start = before.next.position in
     let state = with_order_row made.order new.consume_carts before in
     let id : made.order.id ≡ before.next.order = sym (ap (λ (o : Order). o.id) m.is_order) in

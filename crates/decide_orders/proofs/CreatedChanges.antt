@@ -8,8 +8,8 @@ use Rattle.model_rows.specs.declared.rows.OrderPos.{OrderPos}
 use Rattle.model_rows.specs.declared.rows.OrderRows.{OrderRows}
 use Rattle.model_rows.specs.declared.changes.Change.TheVariants.{PutOrder, PutPosition, DropCart}
 use Rattle.model_rows.specs.Lists.{Lists, State}
-use Rattle.model_rows.specs.Change.{changed, without_carts}
-use Rattle.model_rows.specs.Consumed.{consumed}
+use Rattle.model_rows.specs.Change.{change_applied, without_carts}
+use Rattle.model_rows.specs.Consumed.{carts_consumed}
 use Rattle.model_rows.proofs.EachRow.{all_weaker}
 use Rattle.model_invariant.specs.Changes.{same_place, LeadTo}
 use Rattle.model_invariant.specs.Limits.{IsLimitedPosition}
@@ -44,7 +44,7 @@ front_unlike xs ys all is h = record {
 -- all positions at last are those that stand and those that are left
 module _ (lists : Lists) (number : ℕ) (all : List OrderPos) (unlike : AreUnlike all) where
   -- behind those that stand
-  behind : (id : ℕ) (row : OrderPos) (rows : List OrderPos) (state : State) → row.id ≡ id → Goes lists number id state → state.lists.positions ++ (row ∷ rows) ≡ all → (changed (PutPosition row) state).lists.positions ++ rows ≡ all
+  behind : (id : ℕ) (row : OrderPos) (rows : List OrderPos) (state : State) → row.id ≡ id → Goes lists number id state → state.lists.positions ++ (row ∷ rows) ≡ all → (change_applied (PutPosition row) state).lists.positions ++ rows ≡ all
   behind id row rows state own g is =
       let above = all_weaker (λ r. r.id < id) (λ r. r.id < row.id) (λ r lt. omega (arith, lt, own)) state.lists.positions g.sound.ids.positions.below in
       ap (λ (ps : List OrderPos). ps ++ rows) (last_put row state.lists.positions above) ∙ append_assoc state.lists.positions (row ∷ []) rows ∙ is
@@ -60,14 +60,14 @@ module _ (lists : Lists) (number : ℕ) (all : List OrderPos) (unlike : AreUnlik
   puts_lead [] id state put takes count own secrets limits g is h =
       let same : state ≡ put = cc (h) in
       subst (λ (s : State). LeadTo [] state.lists s.lists) same (leads_nowhere state.lists)
-  puts_lead (row ∷ rows) id state put takes count own secrets limits g is h = by_put (position_put row state) refl h (λ on. puts_lead rows (id + 1) (changed (PutPosition row) state) put (takes_others (λ (r : OrderPos). r.id) row rows id state.lists.positions takes) count.1 own.1 secrets.1 limits.1 on (behind id row rows state count.0 g is))
+  puts_lead (row ∷ rows) id state put takes count own secrets limits g is h = by_put (position_put row state) refl h (λ on. puts_lead rows (id + 1) (change_applied (PutPosition row) state) put (takes_others (λ (r : OrderPos). r.id) row rows id state.lists.positions takes) count.1 own.1 secrets.1 limits.1 on (behind id row rows state count.0 g is))
     where
       by_put : (done : Result State OrderRefusal) → position_put row state ≡ done → with_positions rows done ≡ Ok put
-          → (Goes lists number (id + 1) (changed (PutPosition row) state) → with_positions rows (Ok (changed (PutPosition row) state)) ≡ Ok put → LeadTo (map PutPosition rows) (changed (PutPosition row) state).lists put.lists)
+          → (Goes lists number (id + 1) (change_applied (PutPosition row) state) → with_positions rows (Ok (change_applied (PutPosition row) state)) ≡ Ok put → LeadTo (map PutPosition rows) (change_applied (PutPosition row) state).lists put.lists)
           → LeadTo (map PutPosition (row ∷ rows)) state.lists put.lists
       by_put (Err refusal) e h more = absurd (cc (h))
       by_put (Ok made) e h more =
-          let next = changed (PutPosition row) state in
+          let next = change_applied (PutPosition row) state in
           let p = put_is row state made e in
           let on = goes_on lists number id row state count.0 own.0 secrets.0 p.left (takes_first (λ (r : OrderPos). r.id) row rows id state.lists.positions takes) limits.0 g in
           let rest = more on (subst (λ (s : State). with_positions rows (Ok s) ≡ Ok put) (sym p.is) h) in
@@ -80,7 +80,7 @@ module _ (lists : Lists) (number : ℕ) (all : List OrderPos) (unlike : AreUnlik
 pub created_leads : (new : NewOrder) (draw : Draw) (before after : State) (made : OrderRows) → IsFitOrder new → IsDraw draw → IsSound before → order_created new draw before ≡ Ok (after, made) → LeadTo (order_changes new.consume_carts made.order made.positions before.lists) before.lists after.lists
 created_leads new draw before after made fit sixteen sound h =
     let m = created_is new draw before after made h in
-    let ids = consumed new.consume_carts before.lists in
+    let ids = carts_consumed new.consume_carts before.lists in
     let start = before.next.position in
     let state = with_order_row made.order new.consume_carts before in
     let left = (without_carts ids before).lists in

@@ -12,7 +12,7 @@ use Rattle.model_rows.specs.declared.changes.Change.TheVariants.{PutPosition}
 use Rattle.model_rows.specs.Lists.{Lists, State, position_at}
 use Rattle.model_rows.specs.Change.{after_change}
 use Rattle.model_rows.specs.Over.{is_over, is_over_size, ignores}
-use Rattle.model_rows.specs.Takes.{used, IsWithin, TakesNoMore}
+use Rattle.model_rows.specs.Takes.{places_used, IsWithin, TakesNoMore}
 use Rattle.model_rows.proofs.Takes.{none_passes, within}
 use Rattle.model_commands.specs.declared.orders.NewOrder.{NewOrder}
 use Rattle.model_commands.specs.declared.orders.OrderRefusal.{OrderRefusal}
@@ -54,11 +54,11 @@ puts_stand (row ∷ rows) id state after counted h = by_put (position_put row st
 all_within : (before after : State) (rows : List OrderPos) → after.moment ≡ before.moment → AllByRecursion (λ p. position_at p.id after.lists ≡ Some p) rows
     → AllByRecursion (λ p. ignores after.lists p.voucher ≡ false) rows → (quotas : List Quota)
     → AllByRecursion (λ quota. is_over before.lists after.lists before.moment (map (λ p. Position p.id) rows) quota ≡ false) quotas
-    → AllByRecursion (λ quota. IsWithin quota.size (used before quota) (used after quota)) quotas
+    → AllByRecursion (λ quota. IsWithin quota.size (places_used before quota) (places_used after quota)) quotas
 all_within before after rows moment stand heed [] h = tt
 all_within before after rows moment stand heed (quota ∷ quotas) h =
-    let weighs = weighs_positions after.lists before.moment quota rows stand heed ∙ ap (λ at. used (record after { moment = at }) quota) (sym moment) in
-    (within quota.size (used before quota) (used after quota) (subst (λ (n : ℕ). is_over_size quota.size (used before quota) n ≡ false) weighs h.0), all_within before after rows moment stand heed quotas h.1)
+    let weighs = weighs_positions after.lists before.moment quota rows stand heed ∙ ap (λ at. places_used (record after { moment = at }) quota) (sym moment) in
+    (within quota.size (places_used before quota) (places_used after quota) (subst (λ (n : ℕ). is_over_size quota.size (places_used before quota) n ≡ false) weighs h.0), all_within before after rows moment stand heed quotas h.1)
 
 pub created_takes_no_more : (new : NewOrder) (draw : Draw) (before after : State) (made : OrderRows) → AllByRecursion (λ p. ignores after.lists p.voucher ≡ false) made.positions → order_created new draw before ≡ Ok (after, made) → TakesNoMore before after
 created_takes_no_more new draw before after made heed h =

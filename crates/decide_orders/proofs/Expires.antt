@@ -10,12 +10,12 @@ use Rattle.model_rows.specs.declared.rows.Order.{Order}
 use Rattle.model_rows.specs.declared.rows.Status.{Status}
 use Rattle.model_rows.specs.declared.rows.Status.TheVariants.{Pending, Paid, Expired, Cancelled}
 use Rattle.model_rows.specs.declared.changes.Change.TheVariants.{PutOrder, DropCart}
-use Rattle.model_rows.specs.Change.{after_change, changed, without_carts}
+use Rattle.model_rows.specs.Change.{after_change, change_applied, without_carts}
 use Rattle.model_rows.specs.Conditions.{is_paid, is_pending}
 use Rattle.model_rows.specs.Lists.{Lists, State, order_at, positions_of}
 use Rattle.model_rows.specs.Refills.{blocks_again, refills_by, refills}
 use Rattle.model_rows.specs.Usage.{stands_as}
-use Rattle.model_rows.specs.Takes.{used}
+use Rattle.model_rows.specs.Takes.{places_used}
 use Rattle.model_rows.proofs.EachRow.{all_weaker, all-row_at, key-row_at}
 use Rattle.model_rows.proofs.Found.{each_found}
 use Rattle.model_rows.proofs.Lowers.{drop_cart_lowers}
@@ -111,25 +111,25 @@ still_unpaid id state other h = by_found (order_at id state.lists)
 
 -- and no quota that stands is used more than before
 module _ (quota : Quota) where
-  one_lowers : (id : ℕ) (state : State) → quota_at quota.id state.lists.catalogue ≡ Some quota → stands_as is_paid (order_at id state.lists) ≡ false → IsSound state → used (expired_at id state) quota ≤ used state quota
+  one_lowers : (id : ℕ) (state : State) → quota_at quota.id state.lists.catalogue ≡ Some quota → stands_as is_paid (order_at id state.lists) ≡ false → IsSound state → places_used (expired_at id state) quota ≤ places_used state quota
   one_lowers id state stands unpaid h = by_found (order_at id state.lists) refl
     where
-      by_found : (found : Option Order) → order_at id state.lists ≡ found → used (with_orders (put_expired state.lists.orders found) state) quota ≤ used state quota
+      by_found : (found : Option Order) → order_at id state.lists ≡ found → places_used (with_orders (put_expired state.lists.orders found) state) quota ≤ places_used state quota
       by_found None is = omega arith
       by_found (Some order) is =
           let its : is_paid order.status ≡ false = sym (ap (stands_as is_paid) is) ∙ unpaid in
           moved_order_lowers state (expired_row order) order quota (own_place id state order is) stands (inl refl) (unpaid_refills state.lists state.moment quota order its) h
 
-  each_lowers : (ids : List ℕ) (state : State) → quota_at quota.id state.lists.catalogue ≡ Some quota → AreUnpaid ids state.lists → IsSound state → used (each_expired ids state) quota ≤ used state quota
+  each_lowers : (ids : List ℕ) (state : State) → quota_at quota.id state.lists.catalogue ≡ Some quota → AreUnpaid ids state.lists → IsSound state → places_used (each_expired ids state) quota ≤ places_used state quota
   each_lowers [] state stands unpaid h = omega arith
   each_lowers (id ∷ ids) state stands unpaid h = omega (arith, one_lowers id state stands unpaid.0 h, each_lowers ids (expired_at id state) stands (all_weaker (λ other. stands_as is_paid (order_at other state.lists) ≡ false) (λ other. stands_as is_paid (order_at other (expired_at id state).lists) ≡ false) (still_unpaid id state) ids unpaid.1) (one_sound id state h))
 
-  pub expired_lowers : (state : State) → quota_at quota.id state.lists.catalogue ≡ Some quota → IsSound state → used (orders_expired state) quota ≤ used state quota
-  expired_lowers state stands h = subst (λ (s : State). used s quota ≤ used state quota) (expired_at_once state h.ids.orders.in_order) (each_lowers (due_orders state.moment state.lists) state stands (due_unpaid state h.ids.orders.in_order) h)
+  pub expired_lowers : (state : State) → quota_at quota.id state.lists.catalogue ≡ Some quota → IsSound state → places_used (orders_expired state) quota ≤ places_used state quota
+  expired_lowers state stands h = subst (λ (s : State). places_used s quota ≤ places_used state quota) (expired_at_once state h.ids.orders.in_order) (each_lowers (due_orders state.moment state.lists) state stands (due_unpaid state h.ids.orders.in_order) h)
 
-  drops_lower : (ids : List ℕ) (state : State) → used (without_carts ids state) quota ≤ used state quota
+  drops_lower : (ids : List ℕ) (state : State) → places_used (without_carts ids state) quota ≤ places_used state quota
   drops_lower [] state = omega arith
-  drops_lower (id ∷ ids) state = omega (arith, drop_cart_lowers state.lists state.moment id quota, drops_lower ids (changed (DropCart id) state))
+  drops_lower (id ∷ ids) state = omega (arith, drop_cart_lowers state.lists state.moment id quota, drops_lower ids (change_applied (DropCart id) state))
 
-  pub dropped_carts_lower : (state : State) → AreInOrder (λ c. c.id) state.lists.carts → used (carts_dropped state) quota ≤ used state quota
-  dropped_carts_lower state order = subst (λ (s : State). used s quota ≤ used state quota) (dropped_at_once state order) (drops_lower (dead_carts state.moment state.lists) state)
+  pub dropped_carts_lower : (state : State) → AreInOrder (λ c. c.id) state.lists.carts → places_used (carts_dropped state) quota ≤ places_used state quota
+  dropped_carts_lower state order = subst (λ (s : State). places_used s quota ≤ places_used state quota) (dropped_at_once state order) (drops_lower (dead_carts state.moment state.lists) state)

@@ -16,7 +16,7 @@ use Rattle.base_sorted.specs.Tables.{row_at}
 use Rattle.model_commands.specs.declared.orders.Move.{Move}
 use Rattle.model_commands.specs.declared.orders.Move.TheVariants.{MarkPaid, MarkPending, MarkExpired, MarkCanceled, Extend}
 use Rattle.decide_orders.specs.declared.moves.Transition.{Transition}
-use Rattle.decide_orders.specs.Moves.{to, revived, turned}
+use Rattle.decide_orders.specs.Moves.{to, order_revived, transition_of}
 
 -- an order that comes back takes a use for each of its positions that name the voucher
 pub uses_more : (row : Order) (lists : Lists) (at v : ℕ) → stands_as is_in_force (order_at row.id lists) ≡ false → is_in_force row.status ≡ true → redeemed v lists + held at v lists + count_by (λ p. names v p.voucher) (positions_of row.id lists) ≡ redeemed v (after_change (PutOrder row) lists) + held at v lists
@@ -47,14 +47,14 @@ plain status turn h = sym (ap (λ (t : Transition). t.revival) (some_turn _ turn
 same_status : (status : Status) (turn : Transition) → to status ≡ Some turn → is_in_force turn.status ≡ is_in_force status
 same_status status turn h = sym (ap (λ (t : Transition). is_in_force t.status) (some_turn _ turn h))
 
-is_revival : (status : Status) (turn : Transition) → revived status ≡ Some turn → turn.revival ≡ true
+is_revival : (status : Status) (turn : Transition) → order_revived status ≡ Some turn → turn.revival ≡ true
 is_revival status turn h = sym (ap (λ (t : Transition). t.revival) (some_turn _ turn h))
 
-comes_back : (status : Status) (turn : Transition) → revived status ≡ Some turn → is_in_force turn.status ≡ is_in_force status
+comes_back : (status : Status) (turn : Transition) → order_revived status ≡ Some turn → is_in_force turn.status ≡ is_in_force status
 comes_back status turn h = sym (ap (λ (t : Transition). is_in_force t.status) (some_turn _ turn h))
 
 -- any other move of an order that isn't in force leaves it so
-pub kept_force : (status : Status) (change : Move) (turn : Transition) → turned status change ≡ Some turn → turn.revival ≡ false → is_in_force turn.status ≡ true → is_in_force status ≡ true
+pub kept_force : (status : Status) (change : Move) (turn : Transition) → transition_of status change ≡ Some turn → turn.revival ≡ false → is_in_force turn.status ≡ true → is_in_force status ≡ true
 kept_force Pending change turn h e force = refl
 kept_force Paid change turn h e force = refl
 kept_force Expired MarkPaid turn h e force = absurd (cc (e, is_revival Paid turn h))

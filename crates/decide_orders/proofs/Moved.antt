@@ -9,14 +9,14 @@ use Rattle.model_rows.specs.declared.rows.OrderRows.{OrderRows}
 use Rattle.model_rows.specs.declared.rows.Own.TheVariants.{Position}
 use Rattle.model_rows.specs.declared.changes.Change.TheVariants.{PutOrder}
 use Rattle.model_rows.specs.Lists.{State, order_at, positions_of}
-use Rattle.model_rows.specs.Change.{after_change, changed}
+use Rattle.model_rows.specs.Change.{after_change, change_applied}
 use Rattle.std.specs.List.{AllByRecursion}
 use Rattle.model_rows.specs.Over.{first_over, ignores}
 use Rattle.model_rows.specs.Refills.{refills}
 use Rattle.model_rows.proofs.EachRow.{all-row_at}
 use Rattle.model_invariant.specs.Limits.{IsLimitedOrder}
 use Rattle.model_invariant.specs.Sound.{IsSound}
-use Rattle.model_rows.specs.Takes.{used, TakesNoMore}
+use Rattle.model_rows.specs.Takes.{places_used, TakesNoMore}
 use Rattle.model_rows.specs.Conditions.{is_in_force}
 use Rattle.model_invariant.proofs.ByNumber.{all_unsorted}
 use Rattle.model_invariant.proofs.OrderLowers.{moved_order_lowers}
@@ -27,7 +27,7 @@ use Rattle.decide_orders.specs.declared.moves.Transition.{Transition}
 use Rattle.model_commands.specs.declared.orders.OrderRefusal.{OrderRefusal}
 use Rattle.model_commands.specs.declared.orders.OrderRefusal.TheVariants.{Voucher as OfVoucher}
 use Rattle.model_commands.specs.declared.vouchers.VoucherRefusal.TheVariants.{SoldOut}
-use Rattle.decide_orders.specs.Moves.{turned, moved_row, have_uses_again, have_budgets_again, order_rows, moved_to, over_again, revival, order_moved}
+use Rattle.decide_orders.specs.Moves.{transition_of, moved_row, have_uses_again, have_budgets_again, order_rows, moved_to, over_again, revival, order_moved}
 use Rattle.decide_orders.proofs.Limited.{moved_limited}
 use Rattle.decide_orders.proofs.MoveLemmas.{found_id, kept_force}
 use Rattle.decide_orders.proofs.Revivals.{over_sorted, revival_takes_no_more}
@@ -47,10 +47,10 @@ pub record IsMoved (number : ℕ) (change : Move) (before after : State) (rows :
   pub old : Order
   pub turn : Transition
   pub stood : order_at number before.lists ≡ Some old
-  pub turns : turned old.status change ≡ Some turn
+  pub turns : transition_of old.status change ≡ Some turn
   pub is_row : moved_row old turn.status change ≡ rows.order
   pub is_rows : order_rows rows.order before ≡ rows
-  pub is_after : changed (PutOrder rows.order) before ≡ after
+  pub is_after : change_applied (PutOrder rows.order) before ≡ after
   pub uses : turn.revival ≡ true → have_uses_again rows.order before ≡ true
   pub budgets : turn.revival ≡ true → have_budgets_again rows.order before ≡ true
   pub not_over : turn.revival ≡ true → over_again rows.order before ≡ None
@@ -71,7 +71,7 @@ module _ (number : ℕ) (change : Move) (before after : State) (rows : OrderRows
     abbrev asked : Transition → Order
     asked turn = moved_row old turn.status change
 
-    with_tests : (turn : Transition) → turned old.status change ≡ Some turn → moved_to (asked turn) before ≡ (after, rows)
+    with_tests : (turn : Transition) → transition_of old.status change ≡ Some turn → moved_to (asked turn) before ≡ (after, rows)
         → (turn.revival ≡ true → have_uses_again (asked turn) before ≡ true) → (turn.revival ≡ true → have_budgets_again (asked turn) before ≡ true)
         → (turn.revival ≡ true → over_again (asked turn) before ≡ None) → IsMoved number change before after rows
     with_tests turn turns is uses budgets not_over =
@@ -84,13 +84,13 @@ module _ (number : ℕ) (change : Move) (before after : State) (rows : OrderRows
           turns = turns;
           is_row = row;
           is_rows = ap (λ (o : Order). order_rows o before) (sym row) ∙ same;
-          is_after = ap (λ (o : Order). changed (PutOrder o) before) (sym row) ∙ ap (λ (x : State × OrderRows). x.0) is;
+          is_after = ap (λ (o : Order). change_applied (PutOrder o) before) (sym row) ∙ ap (λ (x : State × OrderRows). x.0) is;
           uses = λ e. subst (λ (o : Order). have_uses_again o before ≡ true) row (uses e);
           budgets = λ e. subst (λ (o : Order). have_budgets_again o before ≡ true) row (budgets e);
           not_over = λ e. subst (λ (o : Order). over_again o before ≡ None) row (not_over e);
         }
 
-    by_revival : (turn : Transition) → turned old.status change ≡ Some turn → (back : Bool) → turn.revival ≡ back → Gives (if back then revival (asked turn) before else Ok (moved_to (asked turn) before)) → IsMoved number change before after rows
+    by_revival : (turn : Transition) → transition_of old.status change ≡ Some turn → (back : Bool) → turn.revival ≡ back → Gives (if back then revival (asked turn) before else Ok (moved_to (asked turn) before)) → IsMoved number change before after rows
     by_revival turn turns true is h =
         let r = revived_is (asked turn) h in
         with_tests turn turns r.is (λ e. r.uses) (λ e. r.budgets) (λ e. r.not_over)
@@ -100,7 +100,7 @@ module _ (number : ℕ) (change : Move) (before after : State) (rows : OrderRows
   unfolding order_moved
   moved_is h =
       let (old, stood, h1) = found (order_at number before.lists) _ _ h in
-      let (turn, turns, h2) = found (turned old.status change) _ _ h1 in
+      let (turn, turns, h2) = found (transition_of old.status change) _ _ h1 in
       by_revival old stood turn turns turn.revival refl h2
 
   pub moved_moment : Gives (order_moved number change before) → after.moment ≡ before.moment
@@ -137,11 +137,11 @@ module _ (number : ℕ) (change : Move) (before after : State) (rows : OrderRows
       limits : IsLimitedOrder rows.order
       limits = subst IsLimitedOrder m.is_row (moved_limited m.old m.turn.status change fit (all-row_at (λ (o : Order). o.id) IsLimitedOrder number before.lists.orders m.old m.stood sound.limits.orders))
 
-      by_plain : (is_in_force rows.order.status ≡ false) ⊎ (is_in_force m.old.status ≡ true) → IsSound (changed (PutOrder rows.order) before)
+      by_plain : (is_in_force rows.order.status ≡ false) ⊎ (is_in_force m.old.status ≡ true) → IsSound (change_applied (PutOrder rows.order) before)
       by_plain (inl ended) = sound_changed_order before rows.order m.old stood limits sound (inl ended)
       by_plain (inr kept) = sound_changed_order before rows.order m.old stood limits sound (inr (inl kept))
 
-      by_back : (back : Bool) → m.turn.revival ≡ back → IsSound (changed (PutOrder rows.order) before)
+      by_back : (back : Bool) → m.turn.revival ≡ back → IsSound (change_applied (PutOrder rows.order) before)
       by_back true is = sound_changed_order before rows.order m.old stood limits sound (inr (inr (m.uses is, m.budgets is)))
       by_back false is = by_plain (keeps_force m is)
 
@@ -182,8 +182,8 @@ module _ (number : ℕ) (change : Move) (before after : State) (rows : OrderRows
   -- any other move raises no usage of a quota that stands, unless it takes places again that exits set free
   pub moved_lowers : (old : Order) (quota : Quota) → IsSound before → quota_at quota.id before.lists.catalogue ≡ Some quota → order_at number before.lists ≡ Some old
       → (is_in_force old.status ≡ true) ⊎ (is_in_force rows.order.status ≡ false) → refills before.lists before.moment quota old rows.order.status ≡ false
-      → Gives (order_moved number change before) → used after quota ≤ used before quota
-  moved_lowers old quota sound stands stood which again h = subst (λ (s : State). used s quota ≤ used before quota) m.is_after (by_which which)
+      → Gives (order_moved number change before) → places_used after quota ≤ places_used before quota
+  moved_lowers old quota sound stands stood which again h = subst (λ (s : State). places_used s quota ≤ places_used before quota) m.is_after (by_which which)
     where
       m : IsMoved number change before after rows
       m = moved_is h
@@ -194,6 +194,6 @@ module _ (number : ℕ) (change : Move) (before after : State) (rows : OrderRows
       its_again : refills before.lists before.moment quota m.old rows.order.status ≡ false
       its_again = ap (λ (o : Order). refills before.lists before.moment quota o rows.order.status) same ∙ again
 
-      by_which : (is_in_force old.status ≡ true) ⊎ (is_in_force rows.order.status ≡ false) → used (changed (PutOrder rows.order) before) quota ≤ used before quota
+      by_which : (is_in_force old.status ≡ true) ⊎ (is_in_force rows.order.status ≡ false) → places_used (change_applied (PutOrder rows.order) before) quota ≤ places_used before quota
       by_which (inl kept) = moved_order_lowers before rows.order m.old quota (stood_as m) stands (inr (its_old m old stood ∙ kept)) its_again sound
       by_which (inr ended) = moved_order_lowers before rows.order m.old quota (stood_as m) stands (inl ended) its_again sound

@@ -15,7 +15,7 @@ use Rattle.model_rows.specs.declared.rows.OrderPos.{OrderPos}
 use Rattle.model_rows.specs.declared.rows.Own.TheVariants.{Cart, Position}
 use Rattle.model_rows.specs.declared.rows.Voucher.{Voucher}
 use Rattle.model_rows.specs.Budgets.{are_within}
-use Rattle.model_rows.specs.Change.{after_change, changed}
+use Rattle.model_rows.specs.Change.{after_change, change_applied}
 use Rattle.model_rows.specs.Conditions.{is_live_voucher}
 use Rattle.model_rows.specs.Fits.{fits}
 use Rattle.model_rows.specs.Full.{takes_cart, takes_order, takes_positions}
@@ -34,7 +34,7 @@ use Rattle.model_commands.specs.declared.orders.OrderRefusal.TheVariants.{Vouche
 use Rattle.model_commands.specs.declared.vouchers.VoucherRefusal.{VoucherRefusal}
 use Rattle.model_commands.specs.declared.vouchers.VoucherRefusal.TheVariants.{Catalogue, NoHeadroom, NoVoucher, OverBudget, SoldOut, VoucherExpired, WrongProduct}
 use Rattle.decide_orders.specs.CartId.{cart_id_test}
-use Rattle.decide_orders.specs.Carts.{cart_row, has_use_for, placed, position_added, row_of_sold}
+use Rattle.decide_orders.specs.Carts.{cart_row, has_use_for, cart_placed, position_added, row_of_sold}
 use Rattle.decide_orders.specs.Created.{order_row, position_row, position_for, rows_for, position_put, with_positions, with_ids_used, with_order_row, order_placed, counts_test, order_created}
 use Rattle.decide_orders.specs.Sold.{sold_for, sold_at, price_with, product_for_sale, voucher_asked}
 use Rattle.decide_orders.specs.Usable.{usable}
@@ -124,7 +124,7 @@ module _ (draw : Draw) (state : State) where
 
 put_other : (row : OrderPos) (state : State) → position_put row state ≢ Err over
 unfolding position_put
-put_other row state = test_other over (check (has_use state.moment state.lists row.voucher) (OfVoucher NoHeadroom)) (Ok (changed (PutPosition row) state)) (check_other over (has_use state.moment state.lists row.voucher) (OfVoucher NoHeadroom) (λ h. absurd (cc (h)))) (given over (changed (PutPosition row) state))
+put_other row state = test_other over (check (has_use state.moment state.lists row.voucher) (OfVoucher NoHeadroom)) (Ok (change_applied (PutPosition row) state)) (check_other over (has_use state.moment state.lists row.voucher) (OfVoucher NoHeadroom) (λ h. absurd (cc (h)))) (given over (change_applied (PutPosition row) state))
 
 puts_other : (rows : List OrderPos) (done : Result State OrderRefusal) → done ≢ Err over → with_positions rows done ≢ Err over
 puts_other rows (Err refusal) other = other
@@ -174,8 +174,8 @@ cart_row_other new draw state =
     test_other over (cart_id_test new.cart_id) _ (cart_id_other new.cart_id)
     (then_other over (map_err OfVoucher (sold_for new.asked [] state)) _ (sold_below new.asked [] state) (λ sold is. given over (row_of_sold new draw state sold)))
 
-cart_placed_other : (row : CartPos) (state : State) → placed row state ≢ Err over
-unfolding placed
+cart_placed_other : (row : CartPos) (state : State) → cart_placed row state ≢ Err over
+unfolding cart_placed
 cart_placed_other row state =
     test_other over (check (has_use_for row state) (OfVoucher NoHeadroom)) _ (check_other over (has_use_for row state) (OfVoucher NoHeadroom) (λ h. absurd (cc (h))))
     (test_other over (refuse_some (λ quota. OfVoucher (SoldOut quota)) (first_over state.lists (after_change (PutCart row) state.lists) state.moment (Cart row.id ∷ []))) _ (some_other over (λ quota. OfVoucher (SoldOut quota)) (first_over state.lists (after_change (PutCart row) state.lists) state.moment (Cart row.id ∷ [])) (λ quota h. absurd (cc (h))))

@@ -14,7 +14,7 @@ use Rattle.base_values.specs.declared.price_mode.PriceMode.TheVariants as modes
 use Rattle.model_catalogue.specs.declared.rows.Item.{Item}
 use Rattle.model_catalogue.specs.declared.rows.Product.{Product}
 use Rattle.model_catalogue.specs.declared.rows.Variation.{Variation}
-use Rattle.model_catalogue.specs.CatalogueLists.{item_at, variation_at, priced, base_price_by, base_price}
+use Rattle.model_catalogue.specs.CatalogueLists.{item_at, variation_at, price_of, base_price_by, base_price}
 use Rattle.model_rows.specs.declared.rows.OrderPos.{OrderPos}
 use Rattle.model_rows.specs.declared.rows.Voucher.{Voucher}
 use Rattle.model_rows.specs.Budgets.{left_after}
@@ -65,7 +65,7 @@ off_money false base price money = omega arith
 
 module _ (asked : Asked) (fit : IsFitAsked asked) (front : List OrderPos) (state : State) (order : AreInOrder (λ r. r.id) state.lists.vouchers) (limits : AllLimited state.lists) where
   -- a product's base price
-  by_variation : (item : Item) → IsMoney item.default_price → (id : ℕ) (found : Option Variation) → variation_at id state.lists.catalogue ≡ found → IfSome (priced item.default_price found) IsMoney
+  by_variation : (item : Item) → IsMoney item.default_price → (id : ℕ) (found : Option Variation) → variation_at id state.lists.catalogue ≡ found → IfSome (price_of item.default_price found) IsMoney
   by_variation item money id None is = tt
   by_variation item money id (Some variation) is =
       let its = all-row_at (λ (r : Variation). r.id) IsLimitedVariation id state.lists.catalogue.variations variation is limits.variations in

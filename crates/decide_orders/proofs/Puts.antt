@@ -4,20 +4,20 @@ use Rattle.base_values.proofs.Decided.{gave_it, passed}
 use Rattle.model_rows.specs.declared.rows.OrderPos.{OrderPos}
 use Rattle.model_rows.specs.declared.changes.Change.TheVariants.{PutPosition, DropCart}
 use Rattle.model_rows.specs.Lists.{Lists, State}
-use Rattle.model_rows.specs.Change.{after_change, after_all, changed}
+use Rattle.model_rows.specs.Change.{after_change, after_all, change_applied}
 use Rattle.model_rows.specs.Headroom.{has_use}
 use Rattle.decide_orders.specs.Created.{position_put}
 
 -- a put of a position, which had a use of its voucher left
 pub record IsPut (row : OrderPos) (state after : State) : Type 0 where
   pub left : has_use state.moment state.lists row.voucher ≡ true
-  pub is : changed (PutPosition row) state ≡ after
+  pub is : change_applied (PutPosition row) state ≡ after
 
 pub put_is : (row : OrderPos) (state after : State) → position_put row state ≡ Ok after → IsPut row state after
 unfolding position_put
 put_is row state after h =
     let (left, h1) = passed (has_use state.moment state.lists row.voucher) _ _ h in
-    record { left = left; is = gave_it (changed (PutPosition row) state) after h1 }
+    record { left = left; is = gave_it (change_applied (PutPosition row) state) after h1 }
 
 -- cart positions that go leave the rest
 pub carts_keep_catalogue : (ids : List ℕ) (lists : Lists) → (after_all (map DropCart ids) lists).catalogue ≡ lists.catalogue

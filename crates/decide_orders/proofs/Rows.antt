@@ -10,8 +10,8 @@ use Rattle.std.proofs.lemmas.Bool.Decides.{nat_tests}
 use Rattle.model_rows.specs.Conditions.{is_in_force}
 use Rattle.model_rows.specs.Usage.{stands_as}
 use Rattle.model_rows.specs.Lists.{State, order_at, position_at}
-use Rattle.model_rows.specs.Change.{changed, without_carts, after_change}
-use Rattle.model_rows.specs.Consumed.{consumed}
+use Rattle.model_rows.specs.Change.{change_applied, without_carts, after_change}
+use Rattle.model_rows.specs.Consumed.{carts_consumed}
 use Rattle.model_rows.specs.Full.{takes_order, takes_positions}
 use Rattle.model_rows.specs.Headroom.{has_use, AllHaveHeadroom}
 use Rattle.model_invariant.specs.Sound.{IsSound}
@@ -34,7 +34,7 @@ order_headroom row ids state e h = new_order_headroom (without_carts ids state) 
 -- and then a position of the next id
 pub ready_order : (row : Order) (carts : List (List ℕ)) (state : State) → row.id ≡ state.next.order → IsSound state → IsReady state.next.position (with_order_row row carts state)
 ready_order row carts state e h =
-    let ids = consumed carts state.lists in
+    let ids = carts_consumed carts state.lists in
     let left = sound_drop_carts ids state h in
     record { from_one = h.range.next_ids.positions.from_one; positions = left.ids.positions; vouchers = left.ids.vouchers.in_order; headroom = order_headroom row ids state e h }
 
@@ -50,7 +50,7 @@ pub put_headroom : (row : OrderPos) (state : State) → IsReady row.id state →
 put_headroom row state h left = headroom_position state.moment row state.lists h.positions.in_order h.vouchers (by_force (stands_as is_in_force (order_at row.order state.lists)) (has_use state.moment state.lists row.voucher) left) h.headroom
 
 -- and then the next one can be
-pub ready_put : (row : OrderPos) (state : State) → IsReady row.id state → has_use state.moment state.lists row.voucher ≡ true → IsReady (row.id + 1) (changed (PutPosition row) state)
+pub ready_put : (row : OrderPos) (state : State) → IsReady row.id state → has_use state.moment state.lists row.voucher ≡ true → IsReady (row.id + 1) (change_applied (PutPosition row) state)
 ready_put row state h left = record { from_one = omega arith; positions = numbered_put (λ r. r.id) row row.id state.lists.positions refl h.from_one h.positions; vouchers = h.vouchers; headroom = put_headroom row state h left }
 
 pub ready_next : (row : OrderPos) (state after : State) → position_put row state ≡ Ok after → IsReady row.id state → IsReady (row.id + 1) after

@@ -6,7 +6,7 @@ use Rattle.model_rows.specs.declared.rows.OrderPos.{OrderPos}
 use Rattle.model_rows.specs.declared.changes.Change.TheVariants.{PutPosition}
 use Rattle.model_rows.specs.Budgets.{are_within, AllWithinBudget, named_discounts}
 use Rattle.model_rows.specs.Change.{after_all, after_change, without_carts}
-use Rattle.model_rows.specs.Consumed.{consumed}
+use Rattle.model_rows.specs.Consumed.{carts_consumed}
 use Rattle.model_rows.specs.Lists.{Lists, State, order_at}
 use Rattle.model_rows.specs.Usage.{spent}
 use Rattle.model_rows.proofs.Budgets.{carts_spend, new_order_spends, positions_spend, tested_rows, unnamed_discounts}
@@ -32,7 +32,7 @@ positions_keep_vouchers (row ∷ rows) lists = positions_keep_vouchers rows (aft
 
 module _ (row : Order) (carts : List (List ℕ)) (state : State) (next : row.id ≡ state.next.order) (sound : IsSound state) where
   abbrev ids : List ℕ
-  ids = consumed carts state.lists
+  ids = carts_consumed carts state.lists
 
   abbrev left : Lists
   left = (without_carts ids state).lists

@@ -14,13 +14,13 @@ use Rattle.model_rows.specs.declared.rows.OrderPos.{OrderPos}
 use Rattle.model_rows.specs.declared.rows.Own.{Own}
 use Rattle.model_rows.specs.declared.rows.Own.TheVariants.{Cart, Position}
 use Rattle.model_rows.specs.Budgets.{are_within}
-use Rattle.model_rows.specs.Change.{after_change, changed}
+use Rattle.model_rows.specs.Change.{after_change, change_applied}
 use Rattle.model_rows.specs.Full.{takes_cart, takes_order, takes_positions}
 use Rattle.model_rows.specs.Lists.{State, positions_of}
 use Rattle.model_rows.specs.Numbered.{with_cart}
 use Rattle.model_rows.specs.Over.{first_over}
 use Rattle.model_invariant.specs.Positions.{by_positionid}
-use Rattle.decide_orders.specs.Carts.{has_use_for, placed}
+use Rattle.decide_orders.specs.Carts.{has_use_for, cart_placed}
 use Rattle.decide_orders.specs.Created.{order_placed, with_ids_used, with_order_row, with_positions}
 use Rattle.decide_orders.specs.Moves.{have_uses_again, have_budgets_again, over_again, moved_to, revival}
 use Rattle.decide_orders.specs.Places.{places_test, sale_test}
@@ -46,7 +46,7 @@ sale_tested_since {r} {old} {mid} {mark} {own} {all} {tested} {within} takes ext
 
 -- and of an order that comes back, whose positions come by their numbers
 pub tested_again : {r : Result (Unit {0}) OrderRefusal} {old mid : DraftState} {mark : MarkState} {own : List Own} {positions : List OrderPos} (row : Order)
-    → Extends old mid → IsMarkOf old mark → back mark old ≡ old → now mid ≡ changed (PutOrder row) (now old)
+    → Extends old mid → IsMarkOf old mark → back mark old ≡ old → now mid ≡ change_applied (PutOrder row) (now old)
     → own ≡ map (λ p. Position p.id) (positions_of row.id (now old).lists) → positions ≡ by_positionid (positions_of row.id (now old).lists)
     → r ≡ sale_test (are_within (now mid).lists positions) (first_over (now (back mark mid)).lists (now mid).lists (now mid).moment own) true
     → r ≡ sale_test (have_budgets_again row (now old)) (over_again row (now old)) true
@@ -83,8 +83,8 @@ if_err (Ok x) all h = tt
 if_err (Err e) all h = λ other. h e refl
 
 -- a cart position, an order that is made, and one that comes back, are refused by it
-pub cart_refused : (row : CartPos) (state : State) {e : OrderRefusal} → has_use_for row state ≡ true → places_test (first_over state.lists (after_change (PutCart row) state.lists) state.moment (Cart row.id ∷ [])) (takes_cart state) ≡ Err e → placed row state ≡ Err e
-unfolding placed
+pub cart_refused : (row : CartPos) (state : State) {e : OrderRefusal} → has_use_for row state ≡ true → places_test (first_over state.lists (after_change (PutCart row) state.lists) state.moment (Cart row.id ∷ [])) (takes_cart state) ≡ Err e → cart_placed row state ≡ Err e
+unfolding cart_placed
 cart_refused row state uses h = rw uses (refused_on (first_over state.lists (after_change (PutCart row) state.lists) state.moment (Cart row.id ∷ [])) (takes_cart state) (Ok (with_cart row state, row)) h)
 
 pub created_refused : (row : Order) (rows : List OrderPos) (carts : List (List ℕ)) (state put : State) {e : OrderRefusal} → with_positions rows (Ok (with_order_row row carts state)) ≡ Ok put

@@ -12,9 +12,9 @@ use Rattle.model_rows.specs.declared.rows.Order.{Order}
 use Rattle.model_rows.specs.declared.rows.OrderPos.{OrderPos}
 use Rattle.model_rows.specs.declared.rows.Voucher.{Voucher}
 use Rattle.model_rows.specs.declared.changes.Change.TheVariants.{PutPosition}
-use Rattle.model_rows.specs.Change.{after_change, changed, without_carts}
+use Rattle.model_rows.specs.Change.{after_change, change_applied, without_carts}
 use Rattle.model_rows.specs.Conditions.{holds, is_in_force, names}
-use Rattle.model_rows.specs.Consumed.{consumed}
+use Rattle.model_rows.specs.Consumed.{carts_consumed}
 use Rattle.model_rows.specs.Headroom.{HasHeadroom, has_use, has_use_by, held}
 use Rattle.model_rows.specs.Lists.{Lists, State, order_at, position_at, voucher_at}
 use Rattle.model_rows.specs.Usage.{redeemed, stands_as, uses}
@@ -51,11 +51,11 @@ refuses false refusal x e = refl
 
 keep_vouchers : (rows : List OrderPos) (state : State) → (with_all rows state).lists.vouchers ≡ state.lists.vouchers
 keep_vouchers [] state = refl
-keep_vouchers (row ∷ rows) state = keep_vouchers rows (changed (PutPosition row) state)
+keep_vouchers (row ∷ rows) state = keep_vouchers rows (change_applied (PutPosition row) state)
 
 keep_carts : (rows : List OrderPos) (state : State) → (with_all rows state).lists.carts ≡ state.lists.carts
 keep_carts [] state = refl
-keep_carts (row ∷ rows) state = keep_carts rows (changed (PutPosition row) state)
+keep_carts (row ∷ rows) state = keep_carts rows (change_applied (PutPosition row) state)
 
 -- a row that can be put, and as often as it names the voucher that is redeemed
 put_once : (v n : ℕ) (row : OrderPos) (lists : Lists) → row.id ≡ n → AreNumbered (λ r. r.id) n lists.positions
@@ -69,7 +69,7 @@ named_more : (v n : ℕ) (rows : List OrderPos) (state : State) → 1 ≤ n → 
 named_more v n [] state from count numbered = omega arith
 named_more v n (row ∷ rows) state from count numbered =
     let put = put_once v n row state.lists count.0 numbered in
-    let rest = named_more v (n + 1) rows (changed (PutPosition row) state) (omega (arith, from)) count.1 (numbered_put (λ (r : OrderPos). r.id) row n state.lists.positions count.0 from numbered) in
+    let rest = named_more v (n + 1) rows (change_applied (PutPosition row) state) (omega (arith, from)) count.1 (numbered_put (λ (r : OrderPos). r.id) row n state.lists.positions count.0 from numbered) in
     omega (arith, put, rest)
 
 -- ---- the test of the whole
@@ -115,7 +115,7 @@ module _ (row : OrderPos) (rows : List OrderPos) (n : ℕ) (state : State) (from
   too_often id v named found none =
       let once = put_once v.id n row state.lists count.0 numbered in
       let uses_one = names_it v.id id named (key-row_at (λ (r : Voucher). r.id) id state.lists.vouchers v found) in
-      let rest = named_more v.id (n + 1) rows (changed (PutPosition row) state) (omega (arith, from)) count.1 (numbered_put (λ (r : OrderPos). r.id) row n state.lists.positions count.0 from numbered) in
+      let rest = named_more v.id (n + 1) rows (change_applied (PutPosition row) state) (omega (arith, from)) count.1 (numbered_put (λ (r : OrderPos). r.id) row n state.lists.positions count.0 from numbered) in
       let same_held : held at v.id after ≡ held at v.id state.lists = ap (λ (carts : List CartPos). count_by (holds at v.id) carts) (keep_carts (row ∷ rows) state) in
       let no_less : v.max_usages ≤ redeemed v.id state.lists + held at v.id state.lists = grind (arith, nat_tests, none) in
       let above : v.max_usages < redeemed v.id after + held at v.id after = omega (arith, once, uses_one, rest, same_held, no_less) in
@@ -136,26 +136,26 @@ module _ (row : OrderPos) (rows : List OrderPos) (n : ℕ) (state : State) (from
 
 -- ---- one position after another
 
-put_passes : (row : OrderPos) (state : State) → has_use state.moment state.lists row.voucher ≡ true → position_put row state ≡ Ok (changed (PutPosition row) state)
+put_passes : (row : OrderPos) (state : State) → has_use state.moment state.lists row.voucher ≡ true → position_put row state ≡ Ok (change_applied (PutPosition row) state)
 unfolding position_put
-put_passes row state left = passes (has_use state.moment state.lists row.voucher) (OfVoucher NoHeadroom) (Ok (changed (PutPosition row) state)) left
+put_passes row state left = passes (has_use state.moment state.lists row.voucher) (OfVoucher NoHeadroom) (Ok (change_applied (PutPosition row) state)) left
 
 put_refuses : (row : OrderPos) (state : State) → has_use state.moment state.lists row.voucher ≡ false → position_put row state ≡ Err (OfVoucher NoHeadroom)
 unfolding position_put
-put_refuses row state none = refuses (has_use state.moment state.lists row.voucher) (OfVoucher NoHeadroom) (Ok (changed (PutPosition row) state)) none
+put_refuses row state none = refuses (has_use state.moment state.lists row.voucher) (OfVoucher NoHeadroom) (Ok (change_applied (PutPosition row) state)) none
 
 abbrev AreInForce : Lists → List OrderPos → Type 0
 AreInForce lists rows = AllByRecursion (λ p. stands_as is_in_force (order_at p.order lists) ≡ true) rows
 
 each_whole : (rows : List OrderPos) (n : ℕ) (state : State) → AreCounted n rows → AreInForce state.lists rows → IsReady n state → with_positions rows (Ok state) ≡ put_whole rows state
 each_whole [] n state count force ready = sym (passes (are_used_within state.moment state.lists) (OfVoucher NoHeadroom) (Ok state) (all_within state.moment state.lists state.lists.vouchers ready.headroom))
-each_whole (row ∷ rows) n state count force ready = by_use (has_use state.moment state.lists row.voucher) refl (each_whole rows (n + 1) (changed (PutPosition row) state) count.1 force.1)
+each_whole (row ∷ rows) n state count force ready = by_use (has_use state.moment state.lists row.voucher) refl (each_whole rows (n + 1) (change_applied (PutPosition row) state) count.1 force.1)
   where
-    next : has_use state.moment state.lists row.voucher ≡ true → IsReady (n + 1) (changed (PutPosition row) state)
-    next left = subst (λ (m : ℕ). IsReady (m + 1) (changed (PutPosition row) state)) count.0 (ready_put row state (subst (λ (m : ℕ). IsReady m state) (sym count.0) ready) left)
+    next : has_use state.moment state.lists row.voucher ≡ true → IsReady (n + 1) (change_applied (PutPosition row) state)
+    next left = subst (λ (m : ℕ). IsReady (m + 1) (change_applied (PutPosition row) state)) count.0 (ready_put row state (subst (λ (m : ℕ). IsReady m state) (sym count.0) ready) left)
 
     by_use : (b : Bool) → has_use state.moment state.lists row.voucher ≡ b
-        → (IsReady (n + 1) (changed (PutPosition row) state) → with_positions rows (Ok (changed (PutPosition row) state)) ≡ put_whole rows (changed (PutPosition row) state))
+        → (IsReady (n + 1) (change_applied (PutPosition row) state) → with_positions rows (Ok (change_applied (PutPosition row) state)) ≡ put_whole rows (change_applied (PutPosition row) state))
         → with_positions (row ∷ rows) (Ok state) ≡ put_whole (row ∷ rows) state
     by_use true left more = ap (with_positions rows) (put_passes row state left) ∙ more (next left)
     by_use false none more =
@@ -174,7 +174,7 @@ module _ (new : NewOrder) (draw : Draw) (state : State) where
 
   order_found : order_at state.next.order placed.lists ≡ Some (order_row new state)
   order_found =
-      let e = row_at-with_row (λ (r : Order). r.id) state.next.order (order_row new state) (without_carts (consumed new.consume_carts state.lists) state).lists.orders in
+      let e = row_at-with_row (λ (r : Order). r.id) state.next.order (order_row new state) (without_carts (carts_consumed new.consume_carts state.lists) state).lists.orders in
       grind (arith, nat_tests, e)
 
   in_force : stands_as is_in_force (order_at state.next.order placed.lists) ≡ true

@@ -10,9 +10,9 @@ use Rattle.model_rows.specs.declared.rows.Status.TheVariants.{Pending, Paid, Exp
 use Rattle.model_rows.specs.declared.rows.Voucher.{Voucher}
 use Rattle.model_rows.specs.Lists.{State, no_rows, first_ids}
 use Rattle.model_rows.specs.Passages.{is_out, later}
-use Rattle.model_rows.specs.Over.{weighed}
+use Rattle.model_rows.specs.Over.{quota_weighed}
 use Rattle.model_rows.specs.Refills.{refills}
-use Rattle.model_rows.specs.Takes.{used}
+use Rattle.model_rows.specs.Takes.{places_used}
 use Rattle.model_rows.specs.Usage.{usage_of, blocked_by}
 use Rattle.model_commands.specs.declared.orders.Move.TheVariants.{MarkPaid, MarkPending, MarkCanceled, Extend}
 use Rattle.model_commands.specs.declared.orders.OrderRefusal.{OrderRefusal}
@@ -67,15 +67,15 @@ abbrev expired : Bool → State
 expired releases = shop releases [] None Expired
 
 abbrev used_after : Bool → Result (State × OrderRows) OrderRefusal → ℕ
-used_after releases (Ok moved) = used moved.0 (quota releases)
+used_after releases (Ok moved) = places_used moved.0 (quota releases)
 used_after releases (Err refusal) = 99
 
 -- a paid ticket that has gone out takes no place, where the quota releases it
-free : used (paid true) (quota true) ≡ 0
+free : places_used (paid true) (quota true) ≡ 0
 unfolding usage_of blocked_by is_out later
 free = refl
 
-kept : used (paid false) (quota false) ≡ 1
+kept : places_used (paid false) (quota false) ≡ 1
 unfolding usage_of blocked_by is_out later
 kept = refl
 
@@ -99,14 +99,14 @@ neither_refills = (refl, refl)
 
 -- an order that comes back as paid takes no place for a ticket that has gone out, where the quota releases it
 comes_back : used_after true (order_moved 1 MarkPaid (expired true)) ≡ 0
-unfolding order_moved revival weighed usage_of blocked_by is_out later
+unfolding order_moved revival quota_weighed usage_of blocked_by is_out later
 comes_back = refl
 
 full : order_moved 1 MarkPaid (expired false) ≡ Err (OfVoucher (SoldOut 1))
-unfolding order_moved revival weighed usage_of blocked_by is_out later
+unfolding order_moved revival quota_weighed usage_of blocked_by is_out later
 full = refl
 
 -- as pending it takes one
 full_when_pending : order_moved 1 (Extend 200) (expired true) ≡ Err (OfVoucher (SoldOut 1))
-unfolding order_moved revival weighed usage_of blocked_by is_out later
+unfolding order_moved revival quota_weighed usage_of blocked_by is_out later
 full_when_pending = refl

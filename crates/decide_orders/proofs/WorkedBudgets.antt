@@ -11,7 +11,7 @@ use Rattle.model_rows.specs.declared.rows.Status.{Status}
 use Rattle.model_rows.specs.declared.rows.Status.TheVariants.{Pending, Expired}
 use Rattle.model_rows.specs.declared.rows.Voucher.{Voucher}
 use Rattle.model_rows.specs.Lists.{State, no_rows, first_ids}
-use Rattle.model_rows.specs.Over.{weighed}
+use Rattle.model_rows.specs.Over.{quota_weighed}
 use Rattle.model_rows.specs.Usage.{usage_of, blocked_by}
 use Rattle.model_commands.specs.declared.carts.Asked.{Asked}
 use Rattle.model_commands.specs.declared.orders.Move.TheVariants.{MarkPaid, Extend}
@@ -149,7 +149,7 @@ not_extended = refl
 
 -- after the fourth expires too, it can
 paid : refused (order_moved 1 MarkPaid (again Expired)) ≡ None
-unfolding order_moved revival weighed usage_of blocked_by
+unfolding order_moved revival quota_weighed usage_of blocked_by
 paid = refl
 
 -- uses are tested first

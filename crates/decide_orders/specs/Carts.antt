@@ -46,8 +46,8 @@ abbrev pub has_use_for : CartPos → State → Bool
 has_use_for row state = not (is_live_cart state.moment row) || has_use state.moment state.lists row.voucher
 
 -- its voucher needs a use that is left, no quota may be taken too much of, and the table has to take the row
-unfoldable pub placed : CartPos → State → Result (State × CartPos) OrderRefusal
-placed row state = do
+unfoldable pub cart_placed : CartPos → State → Result (State × CartPos) OrderRefusal
+cart_placed row state = do
   check (has_use_for row state) (OfVoucher NoHeadroom)
   refuse_some (λ quota. OfVoucher (SoldOut quota)) (first_over state.lists (after_change (PutCart row) state.lists) state.moment (Cart row.id ∷ []))
   check (takes_cart state) (OfVoucher (Catalogue Full))
@@ -57,4 +57,4 @@ placed row state = do
 unfoldable pub position_added : NewCart → Draw → State → Result (State × CartPos) OrderRefusal
 position_added new draw state = do
   row ← cart_row new draw state
-  placed row state
+  cart_placed row state

@@ -12,8 +12,8 @@ use Rattle.model_rows.specs.declared.changes.Change.{Change}
 use Rattle.model_rows.specs.declared.changes.Change.TheVariants.{PutOrder, PutPosition, DropCart}
 use Rattle.model_rows.specs.Budgets.{are_within}
 use Rattle.model_rows.specs.Lists.{Lists, State}
-use Rattle.model_rows.specs.Change.{changed, without_carts}
-use Rattle.model_rows.specs.Consumed.{consumed}
+use Rattle.model_rows.specs.Change.{change_applied, without_carts}
+use Rattle.model_rows.specs.Consumed.{carts_consumed}
 use Rattle.model_rows.specs.Full.{takes_order, takes_positions}
 use Rattle.model_rows.specs.Headroom.{has_use}
 use Rattle.model_rows.specs.Over.{first_over}
@@ -79,7 +79,7 @@ rows_asked draw state asked = rows_for draw state [] state.next.position 1 asked
 unfoldable pub position_put : OrderPos → State → Result State OrderRefusal
 position_put row state = do
   check (has_use state.moment state.lists row.voucher) (OfVoucher NoHeadroom)
-  Ok (changed (PutPosition row) state)
+  Ok (change_applied (PutPosition row) state)
 
 -- one position after another
 abbrev pub with_positions : List OrderPos → Result State OrderRefusal → Result State OrderRefusal
@@ -89,7 +89,7 @@ with_positions (row ∷ rows) (Ok state) = with_positions rows (position_put row
 
 -- the box office with the order, which has no positions yet, and without the carts that it consumes
 abbrev pub with_order_row : Order → List (List ℕ) → State → State
-with_order_row row carts state = changed (PutOrder row) (without_carts (consumed carts state.lists) state)
+with_order_row row carts state = change_applied (PutOrder row) (without_carts (carts_consumed carts state.lists) state)
 
 -- the order's row is put, without the carts that it consumes, and then its positions
 abbrev pub rows_put : Order → List OrderPos → List (List ℕ) → State → Result State OrderRefusal
@@ -134,4 +134,4 @@ order_created new draw state = do
 
 -- the changes that make an order: the cart positions that it consumes go, then it is put, and then its positions
 abbrev pub order_changes : List (List ℕ) → Order → List OrderPos → Lists → List Change
-order_changes carts order positions lists = map DropCart (consumed carts lists) ++ PutOrder order ∷ map PutPosition positions
+order_changes carts order positions lists = map DropCart (carts_consumed carts lists) ++ PutOrder order ∷ map PutPosition positions

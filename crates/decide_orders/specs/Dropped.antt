@@ -4,7 +4,7 @@ use Rattle.std.specs.Option.{ok_or}
 use Rattle.base_values.specs.Deciding.{◌>>=◌}
 use Rattle.model_rows.specs.declared.changes.Change.TheVariants.{DropCart}
 use Rattle.model_rows.specs.Lists.{State, cart_at}
-use Rattle.model_rows.specs.Change.{changed}
+use Rattle.model_rows.specs.Change.{change_applied}
 use Rattle.model_commands.specs.declared.orders.OrderRefusal.{OrderRefusal}
 use Rattle.model_commands.specs.declared.orders.OrderRefusal.TheVariants.{NoPosition}
 
@@ -12,4 +12,4 @@ use Rattle.model_commands.specs.declared.orders.OrderRefusal.TheVariants.{NoPosi
 unfoldable pub position_dropped : ℕ → State → Result State OrderRefusal
 position_dropped id state = do
   _ ← ok_or (cart_at id state.lists) NoPosition
-  Ok (changed (DropCart id) state)
+  Ok (change_applied (DropCart id) state)

@@ -9,7 +9,7 @@ use Rattle.model_rows.specs.declared.rows.Status.TheVariants.{Pending, Paid, Exp
 use Rattle.model_rows.specs.declared.changes.Change.TheVariants.{PutOrder}
 use Rattle.model_rows.specs.Budgets.{are_within}
 use Rattle.model_rows.specs.Lists.{State, order_at, positions_of}
-use Rattle.model_rows.specs.Change.{after_change, changed}
+use Rattle.model_rows.specs.Change.{after_change, change_applied}
 use Rattle.model_rows.specs.Headroom.{have_room}
 use Rattle.model_rows.specs.Over.{first_over}
 use Rattle.model_invariant.specs.Positions.{by_positionid}
@@ -26,27 +26,27 @@ abbrev pub to : Status → Option Transition
 to status = Some (record { status = status; revival = false })
 
 -- this status follows, and the order comes back to life: the uses, budgets and places that it takes again are tested
-abbrev pub revived : Status → Option Transition
-revived status = Some (record { status = status; revival = true })
+abbrev pub order_revived : Status → Option Transition
+order_revived status = Some (record { status = status; revival = true })
 
 -- what each move makes of an order of each status: the status that follows, or none where it isn't possible
-abbrev pub turned : Status → Move → Option Transition
-turned Pending MarkPaid = to Paid
-turned Pending MarkExpired = to Expired
-turned Pending MarkCanceled = to Cancelled
-turned Pending (Extend end) = to Pending
-turned Pending MarkPending = None
-turned Paid MarkPending = to Pending
-turned Paid MarkCanceled = to Cancelled
-turned Paid MarkPaid = None
-turned Paid MarkExpired = None
-turned Paid (Extend end) = None
-turned Expired MarkPaid = revived Paid
-turned Expired MarkCanceled = to Cancelled
-turned Expired (Extend end) = revived Pending
-turned Expired MarkPending = None
-turned Expired MarkExpired = None
-turned Cancelled change = None
+abbrev pub transition_of : Status → Move → Option Transition
+transition_of Pending MarkPaid = to Paid
+transition_of Pending MarkExpired = to Expired
+transition_of Pending MarkCanceled = to Cancelled
+transition_of Pending (Extend end) = to Pending
+transition_of Pending MarkPending = None
+transition_of Paid MarkPending = to Pending
+transition_of Paid MarkCanceled = to Cancelled
+transition_of Paid MarkPaid = None
+transition_of Paid MarkExpired = None
+transition_of Paid (Extend end) = None
+transition_of Expired MarkPaid = order_revived Paid
+transition_of Expired MarkCanceled = to Cancelled
+transition_of Expired (Extend end) = order_revived Pending
+transition_of Expired MarkPending = None
+transition_of Expired MarkExpired = None
+transition_of Cancelled change = None
 
 -- the end that a move sets
 abbrev pub end_after : Move → ℕ → ℕ
@@ -71,7 +71,7 @@ order_rows row state = record { order = row; positions = by_positionid (position
 
 -- the box office with this row of the order, and that order with its positions
 abbrev pub moved_to : Order → State → State × OrderRows
-moved_to row state = (changed (PutOrder row) state, order_rows row state)
+moved_to row state = (change_applied (PutOrder row) state, order_rows row state)
 
 -- the least quota of which an order takes too much as it comes back
 abbrev pub over_again : Order → State → Option ℕ
@@ -95,5 +95,5 @@ moved_as order change state turn =
 unfoldable pub order_moved : ℕ → Move → State → Result (State × OrderRows) OrderRefusal
 order_moved number change state = do
   order ← ok_or (order_at number state.lists) NoOrder
-  turn ← ok_or (turned order.status change) (WrongStatus order.status)
+  turn ← ok_or (transition_of order.status change) (WrongStatus order.status)
   moved_as order change state turn

@@ -5,7 +5,7 @@ use Rattle.base_values.specs.Deciding.{◌>>◌, check}
 use Rattle.model_rows.specs.declared.rows.OrderPos.{OrderPos}
 use Rattle.model_rows.specs.declared.changes.Change.TheVariants.{PutPosition}
 use Rattle.model_rows.specs.Lists.{Lists, State}
-use Rattle.model_rows.specs.Change.{changed}
+use Rattle.model_rows.specs.Change.{change_applied}
 use Rattle.model_rows.specs.Headroom.{held}
 use Rattle.model_rows.specs.Usage.{redeemed}
 use Rattle.model_commands.specs.declared.vouchers.VoucherRefusal.TheVariants.{NoHeadroom}
@@ -15,7 +15,7 @@ use Rattle.model_commands.specs.declared.orders.OrderRefusal.TheVariants.{Vouche
 -- the box office with all of these positions
 abbrev pub with_all : List OrderPos → State → State
 with_all [] state = state
-with_all (row ∷ rows) state = with_all rows (changed (PutPosition row) state)
+with_all (row ∷ rows) state = with_all rows (change_applied (PutPosition row) state)
 
 -- no voucher is named more often than it may be
 abbrev pub are_used_within : ℕ → Lists → Bool

@@ -5,7 +5,7 @@ ghost use Rattle.model_commands.specs.declared.orders.OrderRefusal.TheVariants.{
 ghost use Rattle.draft_changes.specs.Decides.{AnswersBy, DecidesBy, DeletesBy};
 ghost use Rattle.draft_changes.specs.DraftState.{now};
 ghost use Rattle.model_rows.specs.declared.changes.Change.TheVariants.{PutCart, DropCart};
-ghost use Rattle.decide_orders.specs.Carts.{cart_row, placed, position_added, has_use_for};
+ghost use Rattle.decide_orders.specs.Carts.{cart_row, cart_placed, position_added, has_use_for};
 ghost use Rattle.decide_orders.specs.Dropped.{position_dropped};
 
 use crate::cart_id::{cart_id, test_cart_id};
@@ -73,13 +73,13 @@ fn has_use_for<B: Book>(draft: &Draft<'_, B>, row: &CartPos) -> bool
 }
 
 // Puts the row, if its voucher has a use left, no quota is then over and the table takes it.
-#[tactic(auto, unfolding(crate::specs::Carts::placed))]
+#[tactic(auto, unfolding(crate::specs::Carts::cart_placed))]
 fn place<B: Book>(
     draft: &mut Draft<'_, B>,
     alloc: Global,
     row: CartPos,
 ) -> Result<CartPos, OrderRefusal>
-    ensures { DecidesBy Memory (placed row) (λ copy. PutCart copy ∷ [])
+    ensures { DecidesBy Memory (cart_placed row) (λ copy. PutCart copy ∷ [])
         draft.old draft.new result }
 {
     if !has_use_for(draft, &row) {

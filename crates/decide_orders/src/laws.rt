@@ -32,7 +32,7 @@ ghost use Rattle.decide_orders.specs.Done.{CartAdded, OrderMade, OrderMoved, IsR
 ghost use Rattle.decide_orders.specs.Dropped.{position_dropped};
 ghost use Rattle.decide_orders.specs.Expired.{orders_expired, carts_dropped};
 ghost use Rattle.decide_orders.specs.Whole.{put_whole};
-ghost use Rattle.model_rows.specs.Takes.{used, TakesNoMore};
+ghost use Rattle.model_rows.specs.Takes.{places_used, TakesNoMore};
 ghost use Rattle.decide_orders.specs.Places.{own_positions, NoneIsOver, AllHeed};
 
 /// Each cart position that is added was weighed: it takes too much of no quota, where the position itself
@@ -73,7 +73,7 @@ pub fn carts_keep_sound()
 /// A cart position that is deleted raises no quota's usage.
 pub fn dropping_lowers()
     ensures { (id : ℕ) (before after : State) (quota : Quota) →
-        position_dropped id before ≡ Ok after → used after quota ≤ used before quota }
+        position_dropped id before ≡ Ok after → places_used after quota ≤ places_used before quota }
 {}
 
 /// Each order that is made was weighed, without the carts that it consumes: it takes too much of no quota, where
@@ -157,7 +157,7 @@ pub fn other_moves_lower()
         order_at moved.number moved.before.lists ≡ Some old →
         (is_in_force old.status ≡ true) ⊎ (is_in_force moved.rows.order.status ≡ false) →
         refills moved.before.lists moved.before.moment quota old moved.rows.order.status ≡ false →
-        used moved.after quota ≤ used moved.before quota }
+        places_used moved.after quota ≤ places_used moved.before quota }
     ensures kept { (lists : Lists) (at : ℕ) (quota : Quota) (old : Order) (status : Status) →
         quota.release_after_exit ≡ false → refills lists at quota old status ≡ false }
 {}
@@ -183,9 +183,9 @@ pub fn the_first_are_enough()
 pub fn overdue_lowers()
     ensures expired { (state : State) (quota : Quota) →
         IsSound state → quota_at quota.id state.lists.catalogue ≡ Some quota →
-        used (orders_expired state) quota ≤ used state quota }
+        places_used (orders_expired state) quota ≤ places_used state quota }
     ensures dropped { (state : State) (quota : Quota) →
-        IsSound state → used (carts_dropped state) quota ≤ used state quota }
+        IsSound state → places_used (carts_dropped state) quota ≤ places_used state quota }
 {}
 
 /// A sound box office stays sound where overdue orders expire, and where dead cart positions are deleted.

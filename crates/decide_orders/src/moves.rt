@@ -7,7 +7,7 @@ ghost use Rattle.draft_changes.specs.DraftState.{now};
 ghost use Rattle.model_rows.specs.Lists.{order_at, positions_of};
 ghost use Rattle.model_rows.specs.Conditions.{is_in_force, names};
 ghost use Rattle.model_rows.specs.Usage.{stands_as};
-ghost use Rattle.decide_orders.specs.Moves.{to, revived, turned, end_after, moved_row, moved_to, moved_as, have_uses_again, revival, order_moved};
+ghost use Rattle.decide_orders.specs.Moves.{to, order_revived, transition_of, end_after, moved_row, moved_to, moved_as, have_uses_again, revival, order_moved};
 ghost use Rattle.decide_orders.specs.Steps.{uses_again, has_room_again};
 ghost use Rattle.decide_orders.specs.Puts.{IsFresh, ComesBack, puts_order};
 
@@ -36,8 +36,8 @@ fn to(status: Status) -> Option<Transition>
     })
 }
 
-fn revived(status: Status) -> Option<Transition>
-    ensures { result ≡ revived status }
+fn order_revived(status: Status) -> Option<Transition>
+    ensures { result ≡ order_revived status }
 {
     Some(Transition {
         status,
@@ -46,8 +46,8 @@ fn revived(status: Status) -> Option<Transition>
 }
 
 /// What a move makes of an order of this status; none where it isn't possible.
-pub fn turned(status: Status, change: Move) -> Option<Transition>
-    ensures { result ≡ turned status change }
+pub fn transition_of(status: Status, change: Move) -> Option<Transition>
+    ensures { result ≡ transition_of status change }
 {
     match (status, change) {
         (Status::Cancelled, _) => None,
@@ -56,8 +56,8 @@ pub fn turned(status: Status, change: Move) -> Option<Transition>
         (Status::Pending, Move::MarkExpired) => to(Status::Expired),
         (Status::Pending, Move::Extend(_)) => to(Status::Pending),
         (Status::Paid, Move::MarkPending) => to(Status::Pending),
-        (Status::Expired, Move::MarkPaid) => revived(Status::Paid),
-        (Status::Expired, Move::Extend(_)) => revived(Status::Pending),
+        (Status::Expired, Move::MarkPaid) => order_revived(Status::Paid),
+        (Status::Expired, Move::Extend(_)) => order_revived(Status::Pending),
         _ => None,
     }
 }
@@ -101,11 +101,11 @@ fn order_of<B: Book>(
 
 // The turn of an order of this status, where the move is possible.
 fn turn_of(status: Status, change: &Move) -> Result<Transition, OrderRefusal>
-    ensures done { IfOk result (λ turn. turned status change.now ≡ Some turn) }
-    ensures none { IfErr result (λ _. turned status change.now ≡ None) }
+    ensures done { IfOk result (λ turn. transition_of status change.now ≡ Some turn) }
+    ensures none { IfErr result (λ _. transition_of status change.now ≡ None) }
     ensures refused { IfErr result (λ e. e ≡ OrderRefusal.WrongStatus status) }
 {
-    turned(status, *change).ok_or(OrderRefusal::WrongStatus(status))
+    transition_of(status, *change).ok_or(OrderRefusal::WrongStatus(status))
 }
 
 // Moves an order that stands, as its turn says.
@@ -118,7 +118,7 @@ fn move_as<B: Book>(
 ) -> Result<OrderRows, OrderRefusal>
     requires fresh { IsFresh draft.old }
     requires stands { order_at order.id (now draft.old).lists ≡ Some order }
-    requires turn { turned order.status change.now ≡ Some turn }
+    requires turn { transition_of order.status change.now ≡ Some turn }
     ensures { DecidesBy Memory (λ state. moved_as order change.now state turn) puts_order
         draft.old draft.new result }
 {

@@ -7,7 +7,7 @@ use Rattle.base_values.specs.Texts.{same_text}
 use Rattle.model_rows.specs.declared.rows.Voucher.{Voucher}
 use Rattle.model_rows.specs.declared.changes.Change.TheVariants.{PutVoucher}
 use Rattle.model_rows.specs.Lists.{Lists, State, voucher_at}
-use Rattle.model_rows.specs.Change.{changed}
+use Rattle.model_rows.specs.Change.{change_applied}
 use Rattle.model_rows.specs.Named.{is_used}
 use Rattle.model_rows.specs.Over.{first_over}
 use Rattle.model_rows.specs.Usage.{spent}
@@ -63,7 +63,7 @@ pub record IsChanged (id : ℕ) (patch : VoucherPatch) (before after : State) (r
   pub stood : voucher_at id before.lists ≡ Some old
   pub asked : IsAsked patch before.lists old row
   pub placed : Passed (place_test (spent row.id before.lists) row before)
-  pub is_after : changed (PutVoucher row) before ≡ after
+  pub is_after : change_applied (PutVoucher row) before ≡ after
 
 same_id_is : (a b : Option ℕ) → same_id a b ≡ true → a ≡ b
 same_id_is None None h = refl
@@ -110,14 +110,14 @@ module _ (id : ℕ) (patch : VoucherPatch) (before after : State) (row : Voucher
       let (old, stood, h1) = found (voucher_at id before.lists) _ _ h in
       let (r, asked, h2) = gave (changed_row patch before.lists old) _ h1 in
       let (placed, h3) = gave_unit (place_test (spent r.id before.lists) r before) _ h2 in
-      let same = gave_it (changed (PutVoucher r) before, r) (after, row) h3 in
+      let same = gave_it (change_applied (PutVoucher r) before, r) (after, row) h3 in
       let is_row : r ≡ row = ap (λ (x : State × Voucher). x.1) same in
       record {
         old = old;
         stood = stood;
         asked = row_is_asked patch before.lists old row (asked ∙ ap (λ (x : Voucher). Ok x) is_row);
         placed = subst (λ (x : Voucher). Passed (place_test (spent x.id before.lists) x before)) is_row placed;
-        is_after = ap (λ (x : Voucher). changed (PutVoucher x) before) (sym is_row) ∙ ap (λ (x : State × Voucher). x.0) same;
+        is_after = ap (λ (x : Voucher). change_applied (PutVoucher x) before) (sym is_row) ∙ ap (λ (x : State × Voucher). x.0) same;
       }
 
   pub changed_moment : Gives (voucher_changed id patch before) → after.moment ≡ before.moment

@@ -8,7 +8,7 @@ use Rattle.model_rows.specs.declared.changes.Change.TheVariants.{PutVoucher}
 use Rattle.model_rows.specs.Conditions.{same_id}
 use Rattle.model_rows.specs.Lists.{Lists, State, voucher_at}
 use Rattle.model_rows.specs.Named.{is_used}
-use Rattle.model_rows.specs.Change.{changed}
+use Rattle.model_rows.specs.Change.{change_applied}
 use Rattle.model_rows.specs.Usage.{spent}
 use Rattle.model_commands.specs.declared.vouchers.VoucherPatch.{VoucherPatch}
 use Rattle.model_commands.specs.declared.vouchers.VoucherRefusal.{VoucherRefusal}
@@ -41,4 +41,4 @@ voucher_changed id patch state = do
   old ← ok_or (voucher_at id state.lists) NoVoucher
   row ← changed_row patch state.lists old
   place_test (spent row.id state.lists) row state
-  Ok (changed (PutVoucher row) state, row)
+  Ok (change_applied (PutVoucher row) state, row)

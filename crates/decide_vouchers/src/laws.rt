@@ -6,7 +6,7 @@ ghost use Rattle.model_catalogue.specs.declared.rows.Quota.{Quota};
 ghost use Rattle.model_rows.specs.Lists.{State};
 ghost use Rattle.model_rows.specs.Over.{first_over};
 ghost use Rattle.model_invariant.specs.Sound.{IsSound};
-ghost use Rattle.model_rows.specs.Takes.{used, TakesNoMore};
+ghost use Rattle.model_rows.specs.Takes.{places_used, TakesNoMore};
 ghost use Rattle.model_rows.specs.Named.{voucher_of};
 ghost use Rattle.base_values.specs.Draws.{IsDraw};
 ghost use Rattle.model_commands.specs.FitRequests.{IsFitVoucher, IsFitVoucherPatch};
@@ -37,7 +37,7 @@ pub fn changing_takes_no_more()
 /// A voucher that is deleted raises no quota's usage.
 pub fn deleting_lowers()
     ensures { (id : ℕ) (before after : State) (quota : Quota) →
-        voucher_deleted id before ≡ Ok after → used after quota ≤ used before quota }
+        voucher_deleted id before ≡ Ok after → places_used after quota ≤ places_used before quota }
 {}
 
 /// A sound box office stays sound where a voucher is made, changed or deleted. What is asked is within its limits, as that

@@ -6,7 +6,7 @@ ghost use Rattle.model_commands.specs.declared.vouchers.VoucherRefusal.TheVarian
 ghost use Rattle.draft_changes.specs.Decides.{first_over_since, Logs, RefusesBy};
 ghost use Rattle.draft_changes.specs.DraftState.{now, Extends, IsMarkOf};
 ghost use Rattle.model_rows.specs.Budgets.{covers};
-ghost use Rattle.model_rows.specs.Change.{changed};
+ghost use Rattle.model_rows.specs.Change.{change_applied};
 ghost use Rattle.model_rows.specs.declared.changes.Change.TheVariants.{PutVoucher};
 ghost use Rattle.decide_vouchers.specs.Placed.{has_uses, place_test};
 
@@ -46,7 +46,7 @@ pub fn place<B: Book>(
     taken_off: u128,
 ) -> Result<(), VoucherRefusal>
     ensures passed { OnOk result (place_test taken_off row (now draft.old) ≡ Ok tt) }
-    ensures put { OnOk result (now draft.new ≡ changed (PutVoucher row) (now draft.old)) }
+    ensures put { OnOk result (now draft.new ≡ change_applied (PutVoucher row) (now draft.old)) }
     ensures refused { RefusesBy Memory (place_test taken_off row (now draft.old)) result }
     ensures changes { OnOk result (Logs (PutVoucher row ∷ []) draft.old draft.new) }
     ensures extends { Extends draft.old draft.new }

@@ -8,7 +8,7 @@ use Rattle.model_rows.specs.declared.rows.Waiting.{Waiting}
 use Rattle.model_rows.specs.Full.{takes_waiting}
 use Rattle.model_rows.specs.Lists.{State}
 use Rattle.model_rows.specs.Numbered.{with_waiting}
-use Rattle.model_rows.specs.Takes.{used}
+use Rattle.model_rows.specs.Takes.{places_used}
 use Rattle.model_invariant.specs.Limits.{IsLimitedWaiting}
 use Rattle.model_invariant.specs.Sound.{IsSound}
 use Rattle.model_invariant.proofs.Numbered.{takes_it}
@@ -67,11 +67,11 @@ module _ (new : NewWaiting) (before after : State) (row : Waiting) where
   joined_moment h = sym (ap (λ (s : State). s.moment) (joined_is h).is_after)
 
   -- one more waits
-  pub joined_takes_one : (quota : Quota) → IsSound before → Gives (entry_joined new before) → used after quota ≡ used before quota + place_in quota row.product
+  pub joined_takes_one : (quota : Quota) → IsSound before → Gives (entry_joined new before) → places_used after quota ≡ places_used before quota + place_in quota row.product
   joined_takes_one quota sound h =
       let j = joined_is h in
       let waits : row.voucher ≡ None = sym (ap (λ (r : Waiting). r.voucher) j.is_row) in
-      subst (λ (s : State). used s quota ≡ used before quota + place_in quota row.product) j.is_after (put_new before row (joined_id j) waits quota sound)
+      subst (λ (s : State). places_used s quota ≡ places_used before quota + place_in quota row.product) j.is_after (put_new before row (joined_id j) waits quota sound)
 
   -- the box office stays sound
   pub joined_sound : IsFitWaiting new → IsSound before → Gives (entry_joined new before) → IsSound after

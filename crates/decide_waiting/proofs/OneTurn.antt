@@ -9,12 +9,12 @@ use Rattle.model_rows.specs.Lists.{State}
 use Rattle.model_commands.specs.declared.waiting.WaitingRefusal.{WaitingRefusal}
 use Rattle.decide_waiting.specs.Sending.{sent_changes, voucher_sent}
 use Rattle.decide_waiting.specs.Steps.{CanSend}
-use Rattle.decide_waiting.specs.Steps.{state_after, run_with, each_sent, noted, logged, run_after}
+use Rattle.decide_waiting.specs.Steps.{state_after, run_with, each_sent, ids_noted, changes_logged, run_after}
 use Rattle.decide_waiting.proofs.Trades.{sent_can_send}
 use Rattle.decide_waiting.proofs.Sent.{sent_is}
 
 module _ (draw : Draw) where
-  by_answer : (ids : List ℕ) (changes : List Change) (more : List ℕ) (state : State) (r : Result (State × Waiting) WaitingRefusal) → run_after (noted r ids) (logged draw state r changes) (each_sent draw more (state_after state r)) ≡ run_after ids changes (run_with draw state r (each_sent draw more (state_after state r)))
+  by_answer : (ids : List ℕ) (changes : List Change) (more : List ℕ) (state : State) (r : Result (State × Waiting) WaitingRefusal) → run_after (ids_noted r ids) (changes_logged draw state r changes) (each_sent draw more (state_after state r)) ≡ run_after ids changes (run_with draw state r (each_sent draw more (state_after state r)))
   by_answer ids changes more state (Err refusal) = refl
   by_answer ids changes more state (Ok sent) =
       let rest = each_sent draw more sent.0 in
@@ -23,7 +23,7 @@ module _ (draw : Draw) where
       λ i. record { state = rest.state; ids = one i; changes = two i }
 
   -- where there is room the next has its turn
-  pub turn_joined : (id : ℕ) (ids : List ℕ) (changes : List Change) (more : List ℕ) (state : State) → takes_voucher state ≡ true → run_after (noted (voucher_sent id draw state) ids) (logged draw state (voucher_sent id draw state) changes) (each_sent draw more (state_after state (voucher_sent id draw state))) ≡ run_after ids changes (each_sent draw (id ∷ more) state)
+  pub turn_joined : (id : ℕ) (ids : List ℕ) (changes : List Change) (more : List ℕ) (state : State) → takes_voucher state ≡ true → run_after (ids_noted (voucher_sent id draw state) ids) (changes_logged draw state (voucher_sent id draw state) changes) (each_sent draw more (state_after state (voucher_sent id draw state))) ≡ run_after ids changes (each_sent draw (id ∷ more) state)
   turn_joined id ids changes more state room = by_answer ids changes more state (voucher_sent id draw state) ∙ ap (λ b. run_after ids changes (if b then run_with draw state (voucher_sent id draw state) (each_sent draw more (state_after state (voucher_sent id draw state))) else record { state = state; ids = []; changes = [] })) (sym room)
 
   -- and else serving ends

@@ -9,7 +9,7 @@ use Rattle.model_rows.specs.declared.rows.Waiting.{Waiting}
 use Rattle.model_rows.specs.Full.{takes_voucher}
 use Rattle.model_rows.specs.Lists.{State, waiting_at}
 use Rattle.model_invariant.specs.Sound.{IsSound}
-use Rattle.model_rows.specs.Takes.{used}
+use Rattle.model_rows.specs.Takes.{places_used}
 use Rattle.model_rows.specs.Usage.{usage_of, has_none}
 use Rattle.model_rows.proofs.EachRow.{key-row_at}
 use Rattle.model_commands.specs.declared.waiting.WaitingRefusal.{WaitingRefusal}
@@ -17,7 +17,7 @@ use Rattle.model_commands.specs.declared.waiting.WaitingRefusal.TheVariants.{Sol
 use Rattle.decide_waiting.specs.Places.{first_closed}
 use Rattle.decide_waiting.specs.Sending.{with_its_voucher, with_sent, sent_to, voucher_sent}
 use Rattle.decide_waiting.specs.Steps.{CanSend, TradesPlace}
-use Rattle.decide_waiting.specs.Serving.{served, all_sent, all_served, queue}
+use Rattle.decide_waiting.specs.Serving.{entries_served, all_sent, all_served, queue}
 use Rattle.decide_waiting.specs.Steps.{Run, run_with, state_after, each_sent, served_in_turn}
 use Rattle.decide_waiting.proofs.Served.{Turn, sound_at_once}
 use Rattle.decide_waiting.proofs.Trades.{sent_can_send, sound_can_send, sent_trades, sent_used}
@@ -80,40 +80,40 @@ module _ (id : ℕ) (draw : Draw) (before after : State) (row : Waiting) where
         let is = sent_trades draw before s.old (sound_can_send before sound) quota (stands_own s.old s.stands) s.to.waits in
         subst (λ (r : Waiting). TradesPlace quota r.product (usage_of before.lists before.moment quota) (usage_of after.lists after.moment quota)) s.to.is_row (subst (λ (a : State). TradesPlace quota s.old.product (usage_of before.lists before.moment quota) (usage_of a.lists a.moment quota)) s.to.is_after is)
 
-    pub sending_keeps_used : (quota : Quota) → used after quota ≡ used before quota
+    pub sending_keeps_used : (quota : Quota) → places_used after quota ≡ places_used before quota
     sending_keeps_used quota =
         let s = sent_is h in
-        subst (λ (a : State). used a quota ≡ used before quota) s.to.is_after (sent_used draw before s.old (sound_can_send before sound) quota (stands_own s.old s.stands) s.to.waits)
+        subst (λ (a : State). places_used a quota ≡ places_used before quota) s.to.is_after (sent_used draw before s.old (sound_can_send before sound) quota (stands_own s.old s.stands) s.to.waits)
 
 -- serving leaves every quota's usage as it was
 module _ (draw : Draw) (quota : Quota) where
-  turn_keeps : (id : ℕ) (state : State) (can : CanSend state) (r : Result (State × Waiting) WaitingRefusal) → voucher_sent id draw state ≡ r → CanSend (state_after state r) × (used (state_after state r) quota ≡ used state quota)
+  turn_keeps : (id : ℕ) (state : State) (can : CanSend state) (r : Result (State × Waiting) WaitingRefusal) → voucher_sent id draw state ≡ r → CanSend (state_after state r) × (places_used (state_after state r) quota ≡ places_used state quota)
   turn_keeps id state can (Err refusal) e = (can, refl)
   turn_keeps id state can (Ok sent) e =
       let s = sent_is id draw state sent.0 sent.1 e in
       let own = ap (λ (n : ℕ). waiting_at n state.lists) (key-row_at (λ (r : Waiting). r.id) id state.lists.waiting s.old s.stands) ∙ s.stands in
-      (subst CanSend s.to.is_after (sent_can_send draw state s.old can), subst (λ (a : State). used a quota ≡ used state quota) s.to.is_after (sent_used draw state s.old can quota own s.to.waits))
+      (subst CanSend s.to.is_after (sent_can_send draw state s.old can), subst (λ (a : State). places_used a quota ≡ places_used state quota) s.to.is_after (sent_used draw state s.old can quota own s.to.waits))
 
   same_state : (state : State) (r : Result (State × Waiting) WaitingRefusal) (rest : Run) → (run_with draw state r rest).state ≡ rest.state
   same_state state (Ok sent) rest = refl
   same_state state (Err refusal) rest = refl
 
-  each_keeps : (ids : List ℕ) (state : State) → CanSend state → used (each_sent draw ids state).state quota ≡ used state quota
+  each_keeps : (ids : List ℕ) (state : State) → CanSend state → places_used (each_sent draw ids state).state quota ≡ places_used state quota
   each_keeps [] state can = refl
   each_keeps (id ∷ ids) state can =
       let turn = turn_keeps id state can (voucher_sent id draw state) refl in
-      by_room (takes_voucher state) (ap (λ (s : State). used s quota) (same_state state (voucher_sent id draw state) (each_sent draw ids (state_after state (voucher_sent id draw state)))) ∙ each_keeps ids (state_after state (voucher_sent id draw state)) turn.0 ∙ turn.1)
+      by_room (takes_voucher state) (ap (λ (s : State). places_used s quota) (same_state state (voucher_sent id draw state) (each_sent draw ids (state_after state (voucher_sent id draw state)))) ∙ each_keeps ids (state_after state (voucher_sent id draw state)) turn.0 ∙ turn.1)
     where
-      by_room : (b : Bool) → used (run_with draw state (voucher_sent id draw state) (each_sent draw ids (state_after state (voucher_sent id draw state)))).state quota ≡ used state quota → used (Turn draw state ids id state b).state quota ≡ used state quota
+      by_room : (b : Bool) → places_used (run_with draw state (voucher_sent id draw state) (each_sent draw ids (state_after state (voucher_sent id draw state)))).state quota ≡ places_used state quota → places_used (Turn draw state ids id state b).state quota ≡ places_used state quota
       by_room true more = more
       by_room false more = refl
 
-  in_turn_keeps : (state : State) → CanSend state → used (served_in_turn draw state).0 quota ≡ used state quota
+  in_turn_keeps : (state : State) → CanSend state → places_used (served_in_turn draw state).0 quota ≡ places_used state quota
   unfolding served_in_turn
   in_turn_keeps state can = each_keeps (map (λ e. e.id) (queue state.lists)) state can
 
-  pub serving_keeps_used : (state : State) → IsSound state → used (all_served draw state).0 quota ≡ used state quota
-  serving_keeps_used state sound = ap (λ (x : State × List ℕ). used x.0 quota) (sym (sound_at_once draw state sound)) ∙ in_turn_keeps state (sound_can_send state sound)
+  pub serving_keeps_used : (state : State) → IsSound state → places_used (all_served draw state).0 quota ≡ places_used state quota
+  serving_keeps_used state sound = ap (λ (x : State × List ℕ). places_used x.0 quota) (sym (sound_at_once draw state sound)) ∙ in_turn_keeps state (sound_can_send state sound)
 
 -- nor does it change the moment
 all_sent_moment : (draw : Draw) (entries : List Waiting) (state : State) → (all_sent draw entries state).moment ≡ state.moment
@@ -122,4 +122,4 @@ all_sent_moment draw (e ∷ es) state = all_sent_moment draw es (with_sent draw 
 
 pub served_moment : (draw : Draw) (state : State) → (all_served draw state).0.moment ≡ state.moment
 unfolding all_served
-served_moment draw state = all_sent_moment draw (served state) state
+served_moment draw state = all_sent_moment draw (entries_served state) state

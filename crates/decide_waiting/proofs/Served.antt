@@ -29,7 +29,7 @@ use Rattle.model_commands.specs.declared.waiting.WaitingRefusal.TheVariants.{Cat
 use Rattle.decide_waiting.specs.Places.{used_unwaited, is_closed, first_closed}
 use Rattle.decide_waiting.specs.Sending.{sent_voucher, with_its_voucher, with_sent, sent_to, voucher_sent}
 use Rattle.decide_waiting.specs.Steps.{CanSend}
-use Rattle.decide_waiting.specs.Serving.{queue, served_in, has_place, is_served, served_after, served, all_sent, all_served, all_changes, served_changes}
+use Rattle.decide_waiting.specs.Serving.{queue, served_in, has_place, is_served, served_after, entries_served, all_sent, all_served, all_changes, served_changes}
 use Rattle.decide_waiting.specs.Steps.{Run, state_after, run_with, run_after, each_sent, run_in_turn, served_in_turn}
 use Rattle.decide_waiting.proofs.Trades.{sound_can_send, sent_can_send, sent_unwaited}
 use Rattle.decide_waiting.proofs.Queue.{AreApart, Waits, queue_apart, queue_waits}
@@ -188,8 +188,8 @@ module _ (draw : Draw) (start : State) where
       by_room true is sent skip = ap (Turn ids e.id state) is ∙ by_test (is_served start before e) sent skip (decides before state e f waits.0)
       by_room false is sent skip = ap (Turn ids e.id state) is ∙ ap (λ (sent : List Waiting). Decided sent state) (sym (none_served before (e ∷ es) (sym (same_room before state e f) ∙ is)))
 
-  decided : CanSend start → run_in_turn draw start ≡ Decided (served start) start
-  unfolding served
+  decided : CanSend start → run_in_turn draw start ≡ Decided (entries_served start) start
+  unfolding entries_served
   decided can = agree [] (queue start.lists) start (record {
     can = can;
     catalogue = refl;

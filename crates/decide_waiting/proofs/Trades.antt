@@ -18,7 +18,7 @@ use Rattle.model_rows.specs.Fits.{fits_if, fits}
 use Rattle.model_rows.specs.Asked.{held_in}
 use Rattle.model_rows.specs.Lists.{State, voucher_at, waiting_at}
 use Rattle.model_invariant.specs.Sound.{IsSound}
-use Rattle.model_rows.specs.Takes.{used}
+use Rattle.model_rows.specs.Takes.{places_used}
 use Rattle.model_rows.specs.Conditions.{blocks, holds, hits, is_live_voucher}
 use Rattle.model_rows.specs.Usage.{usage_of, blocked_by, blocks_if, has_none, redeemed, waits_for}
 use Rattle.model_rows.proofs.EachRow.{next_absent}
@@ -129,5 +129,5 @@ module _ (draw : Draw) (state : State) (entry : Waiting) (h : CanSend state) whe
       pub sent_unwaited : used_unwaited after quota ≡ used_unwaited state quota + place_in quota entry.product
       sent_unwaited = omega (arith, sent_trades.paid, sent_trades.pending, sent_trades.blocked, sent_trades.carts, sent_trades.exited)
 
-      pub sent_used : used after quota ≡ used state quota
+      pub sent_used : places_used after quota ≡ places_used state quota
       sent_used = omega (arith, sent_trades.paid, sent_trades.pending, sent_trades.blocked, sent_trades.carts, sent_trades.waiting, sent_trades.exited)

@@ -16,7 +16,7 @@ use Rattle.model_commands.specs.declared.waiting.WaitingRefusal.{WaitingRefusal}
 use Rattle.model_commands.specs.declared.waiting.WaitingRefusal.TheVariants.{StillAvailable, AlreadyWaiting}
 use Rattle.decide_waiting.specs.Joined.{entry_joined}
 use Rattle.decide_waiting.specs.Places.{first_closed}
-use Rattle.decide_waiting.specs.Serving.{queue, is_served, served}
+use Rattle.decide_waiting.specs.Serving.{queue, is_served, entries_served}
 
 abbrev item : ℕ → Item
 item id = record { id = id; name = []; default_price = 0; active = true; varied = false }
@@ -44,13 +44,13 @@ unfolding queue
 by_priority = refl
 
 -- the quota of the first is full, so the second alone is sent to
-second_alone : map (λ (e : Waiting). e.id) (served (shop 0 1 (waits 1 (pos 5) 1 ∷ waits 2 (pos 0) 2 ∷ []))) ≡ 2 ∷ []
-unfolding served queue is_served usage_of blocked_by
+second_alone : map (λ (e : Waiting). e.id) (entries_served (shop 0 1 (waits 1 (pos 5) 1 ∷ waits 2 (pos 0) 2 ∷ []))) ≡ 2 ∷ []
+unfolding entries_served queue is_served usage_of blocked_by
 second_alone = refl
 
 -- one place, two for it: the one of higher priority; the other is passed over
-one_place : map (λ (e : Waiting). e.id) (served (shop 1 0 (waits 1 (pos 0) 1 ∷ waits 2 (pos 5) 1 ∷ []))) ≡ 2 ∷ []
-unfolding served queue is_served usage_of blocked_by
+one_place : map (λ (e : Waiting). e.id) (entries_served (shop 1 0 (waits 1 (pos 0) 1 ∷ waits 2 (pos 5) 1 ∷ []))) ≡ 2 ∷ []
+unfolding entries_served queue is_served usage_of blocked_by
 one_place = refl
 
 abbrev asks : ℕ → NewWaiting
@@ -89,10 +89,10 @@ gone_out releases = record {
     scan id kind at = record { id = id; list = 1; position = 1; kind = kind; datetime = at; nonce = None }
 
 -- a quota that releases its places has one for who waits, and one that keeps them has none
-place_set_free : map (λ (e : Waiting). e.id) (served (gone_out true)) ≡ 1 ∷ []
-unfolding served queue is_served usage_of blocked_by is_out later
+place_set_free : map (λ (e : Waiting). e.id) (entries_served (gone_out true)) ≡ 1 ∷ []
+unfolding entries_served queue is_served usage_of blocked_by is_out later
 place_set_free = refl
 
-place_kept : map (λ (e : Waiting). e.id) (served (gone_out false)) ≡ []
-unfolding served queue is_served usage_of blocked_by is_out later
+place_kept : map (λ (e : Waiting). e.id) (entries_served (gone_out false)) ≡ []
+unfolding entries_served queue is_served usage_of blocked_by is_out later
 place_kept = refl

@@ -4,7 +4,7 @@ use Rattle.std.specs.Option.{ok_or}
 use Rattle.base_values.specs.Deciding.{◌>>=◌, ◌>>◌, check}
 use Rattle.model_rows.specs.declared.rows.Waiting.{Waiting}
 use Rattle.model_rows.specs.declared.changes.Change.TheVariants.{PutWaiting}
-use Rattle.model_rows.specs.Change.{changed}
+use Rattle.model_rows.specs.Change.{change_applied}
 use Rattle.model_rows.specs.Lists.{State, waiting_at}
 use Rattle.model_rows.specs.Usage.{has_none}
 use Rattle.model_commands.specs.declared.waiting.WaitingPatch.{WaitingPatch}
@@ -22,4 +22,4 @@ entry_changed id patch state = do
   -- one that has its voucher doesn't wait any more
   check (has_none entry.voucher) AlreadySent
   let row = changed_entry patch entry
-  Ok (changed (PutWaiting row) state, row)
+  Ok (change_applied (PutWaiting row) state, row)

@@ -3,7 +3,7 @@ use Rattle.std.specs.Prelude.{ℕ, Result, Ok}
 use Rattle.std.specs.Option.{ok_or}
 use Rattle.base_values.specs.Deciding.{◌>>=◌, ◌>>◌, check}
 use Rattle.model_rows.specs.declared.changes.Change.TheVariants.{DropWaiting}
-use Rattle.model_rows.specs.Change.{changed}
+use Rattle.model_rows.specs.Change.{change_applied}
 use Rattle.model_rows.specs.Lists.{State, waiting_at}
 use Rattle.model_rows.specs.Usage.{has_none}
 use Rattle.model_commands.specs.declared.waiting.WaitingRefusal.{WaitingRefusal}
@@ -15,4 +15,4 @@ entry_left id state = do
   entry ← ok_or (waiting_at id state.lists) NoEntry
   -- one that has its voucher stays
   check (has_none entry.voucher) AlreadySent
-  Ok (changed (DropWaiting id) state)
+  Ok (change_applied (DropWaiting id) state)

@@ -14,7 +14,7 @@ use Rattle.model_rows.specs.declared.rows.Voucher.{Voucher}
 use Rattle.model_rows.specs.declared.rows.Waiting.{Waiting}
 use Rattle.model_rows.specs.declared.changes.Change.{Change}
 use Rattle.model_rows.specs.declared.changes.Change.TheVariants.{PutVoucher, PutWaiting}
-use Rattle.model_rows.specs.Change.{changed}
+use Rattle.model_rows.specs.Change.{change_applied}
 use Rattle.model_rows.specs.Full.{takes_voucher}
 use Rattle.model_rows.specs.Lists.{State, waiting_at}
 use Rattle.model_rows.specs.Numbered.{with_voucher}
@@ -49,7 +49,7 @@ with_its_voucher state entry = record entry { voucher = Some state.next.voucher 
 
 -- the box office with the new voucher, and the entry that has it
 abbrev pub with_sent : Draw → Waiting → State → State
-with_sent draw entry state = changed (PutWaiting (with_its_voucher state entry)) (with_voucher (sent_voucher draw state entry.product) state)
+with_sent draw entry state = change_applied (PutWaiting (with_its_voucher state entry)) (with_voucher (sent_voucher draw state entry.product) state)
 
 -- the voucher is put before the entry that names it
 abbrev pub sent_changes : Draw → State → Waiting → List Change

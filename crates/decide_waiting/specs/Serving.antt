@@ -66,8 +66,8 @@ served_after state before [] = []
 served_after state before (e ∷ es) = if is_served state before e then e ∷ served_after state (e ∷ before) es else served_after state before es
 
 -- all who are sent, as the box office is before serving
-unfoldable pub served : State → List Waiting
-served state = served_after state [] (queue state.lists)
+unfoldable pub entries_served : State → List Waiting
+entries_served state = served_after state [] (queue state.lists)
 
 -- they get their vouchers in this order
 abbrev pub all_sent : Draw → List Waiting → State → State
@@ -76,7 +76,7 @@ all_sent draw (e ∷ es) state = all_sent draw es (with_sent draw e state)
 
 -- the box office with all their vouchers, and their ids
 unfoldable pub all_served : Draw → State → State × List ℕ
-all_served draw state = (all_sent draw (served state) state, map (λ e. e.id) (served state))
+all_served draw state = (all_sent draw (entries_served state) state, map (λ e. e.id) (entries_served state))
 
 -- the changes that lead there: each voucher before the entry that names it
 abbrev pub all_changes : Draw → List Waiting → State → List Change
@@ -85,4 +85,4 @@ all_changes draw (e ∷ es) state = sent_changes draw state (with_its_voucher st
 
 -- the changes that lead there, for all who are sent a voucher
 unfoldable pub served_changes : Draw → State → List Change
-served_changes draw state = all_changes draw (served state) state
+served_changes draw state = all_changes draw (entries_served state) state

@@ -113,14 +113,14 @@ unfoldable pub served_in_turn : Draw → State → State × List ℕ
 served_in_turn draw state = ((run_in_turn draw state).state, (run_in_turn draw state).ids)
 
 -- the ids so far, with the one that was sent to
-abbrev pub noted : Result (State × Waiting) WaitingRefusal → List ℕ → List ℕ
-noted (Ok sent) ids = ids ++ sent.1.id ∷ []
-noted (Err refusal) ids = ids
+abbrev pub ids_noted : Result (State × Waiting) WaitingRefusal → List ℕ → List ℕ
+ids_noted (Ok sent) ids = ids ++ sent.1.id ∷ []
+ids_noted (Err refusal) ids = ids
 
 -- the changes so far, with those of a sending
-abbrev pub logged : Draw → State → Result (State × Waiting) WaitingRefusal → List Change → List Change
-logged draw state (Ok sent) changes = changes ++ sent_changes draw state sent.1
-logged draw state (Err refusal) changes = changes
+abbrev pub changes_logged : Draw → State → Result (State × Waiting) WaitingRefusal → List Change → List Change
+changes_logged draw state (Ok sent) changes = changes ++ sent_changes draw state sent.1
+changes_logged draw state (Err refusal) changes = changes
 
 -- ids and changes in front of others
 abbrev pub run_after : List ℕ → List Change → Run → Run

@@ -6,7 +6,7 @@ ghost use Rattle.base_values.specs.Draws.{IsDraw};
 ghost use Rattle.base_values.specs.declared.draw.Draw.{Draw};
 ghost use Rattle.model_catalogue.specs.declared.rows.Quota.{Quota};
 ghost use Rattle.model_rows.specs.Lists.{Lists, State};
-ghost use Rattle.model_rows.specs.Takes.{used};
+ghost use Rattle.model_rows.specs.Takes.{places_used};
 ghost use Rattle.model_rows.specs.Usage.{usage_of};
 ghost use Rattle.model_rows.specs.Waits.{waiters};
 ghost use Rattle.base_sorted.specs.Tables.{AreInOrder};
@@ -35,7 +35,7 @@ pub fn sending_keeps_usage()
         (usage_of sent.before.lists sent.before.moment quota)
         (usage_of sent.after.lists sent.after.moment quota) }
     ensures used { (sent : VoucherSent) (quota : Quota) → IsSound sent.before →
-        used sent.after quota ≡ used sent.before quota }
+        places_used sent.after quota ≡ places_used sent.before quota }
 {}
 
 /// Serving one after another, each tested in the box office as it then is, sends to those who are chosen at once by the box
@@ -48,21 +48,22 @@ pub fn serving_is_at_once()
 /// Serving leaves every quota's usage as it was.
 pub fn serving_keeps_usage()
     ensures { (draw : Draw) (state : State) (quota : Quota) → IsSound state →
-        used (all_served draw state).0 quota ≡ used state quota }
+        places_used (all_served draw state).0 quota ≡ places_used state quota }
 {}
 
 /// Joining uses one place more in each quota of the product, and leaves all others as they were.
 pub fn joining_takes_one()
-    ensures { (joined : EntryJoined) (quota : Quota) → IsSound joined.before →
-        used joined.after quota ≡ used joined.before quota + place_in quota joined.row.product }
+    ensures { (joined : EntryJoined) (quota : Quota) → IsSound joined.before
+        → places_used joined.after quota
+        ≡ places_used joined.before quota + place_in quota joined.row.product }
 {}
 
 /// Another priority uses as much as the old one, and leaving raises no usage.
 pub fn others_raise_none()
     ensures changed { (changed : EntryChanged) (quota : Quota) → IsSound changed.before →
-        used changed.after quota ≡ used changed.before quota }
+        places_used changed.after quota ≡ places_used changed.before quota }
     ensures left { (id : ℕ) (before after : State) (quota : Quota) → IsSound before →
-        entry_left id before ≡ Ok after → used after quota ≤ used before quota }
+        entry_left id before ≡ Ok after → places_used after quota ≤ places_used before quota }
 {}
 
 /// A sound box office stays sound where somebody joins, leaves or gets another priority, where a voucher is sent to an

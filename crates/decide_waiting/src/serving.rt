@@ -7,7 +7,7 @@ ghost use Rattle.model_invariant.specs.Sound.{IsSound};
 ghost use Rattle.decide_waiting.specs.Sending.{voucher_sent};
 ghost use Rattle.decide_waiting.specs.Steps.{CanSend};
 ghost use Rattle.decide_waiting.specs.Serving.{all_served, served_changes};
-ghost use Rattle.decide_waiting.specs.Steps.{noted, logged, run_from, run_so_far, state_after};
+ghost use Rattle.decide_waiting.specs.Steps.{ids_noted, changes_logged, run_from, run_so_far, state_after};
 ghost use Rattle.decide_waiting.specs.Steps.{all_places_left};
 
 use crate::places::{all_after_one, first_without_place, places_left};
@@ -86,9 +86,9 @@ fn serve_one<B: Book>(
     ensures done { OnOk result (now draft.new
         ≡ state_after (now draft.old) (voucher_sent id draw (now draft.old))) }
     ensures noted { OnOk result (ids.new.items
-        ≡ noted (voucher_sent id draw (now draft.old)) ids.old.items) }
-    ensures logged { OnOk result (draft.new.log.changes ≡ logged draw (now draft.old)
-        (voucher_sent id draw (now draft.old)) draft.old.log.changes) }
+        ≡ ids_noted (voucher_sent id draw (now draft.old)) ids.old.items) }
+    ensures logged { OnOk result (draft.new.log.changes ≡ changes_logged draw
+        (now draft.old) (voucher_sent id draw (now draft.old)) draft.old.log.changes) }
     ensures left { OnOk result (left.new.items ≡ all_places_left (now draft.new)) }
     ensures extends { Extends draft.old draft.new }
 {

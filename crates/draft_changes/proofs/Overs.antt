@@ -9,7 +9,7 @@ use Rattle.model_rows.specs.declared.rows.Own.{Own}
 use Rattle.model_rows.specs.Lists.{Lists}
 use Rattle.model_rows.specs.Usage.{usage_of}
 use Rattle.model_rows.specs.Total.{total}
-use Rattle.model_rows.specs.Over.{is_over, is_over_size, is_free, weighed}
+use Rattle.model_rows.specs.Over.{is_over, is_over_size, is_free, quota_weighed}
 use Rattle.book_tally.specs.declared.tally.Count.{Count}
 use Rattle.book_tally.specs.Counts.{newest}
 use Rattle.model_rows.specs.declared.rows.Usage.{Usage}
@@ -18,7 +18,7 @@ use Rattle.book_tally.proofs.Newest.{blank, newest_within}
 use Rattle.book_tally.proofs.Earlier.{key_there, newest_split}
 use Rattle.draft_deltas.specs.Counts.{value_at}
 use Rattle.draft_changes.specs.Least.{found_at, IsLeast}
-use Rattle.draft_changes.specs.Used.{used}
+use Rattle.draft_changes.specs.Used.{places_used}
 
 -- a weight that isn't above what was used before is not too much
 pub size_over : (size : Option ℕ) (before weight : ℕ) → weight ≤ before → is_over_size size before weight ≡ false
@@ -31,13 +31,13 @@ size_none None before weight none = refl
 size_none (Some size) before weight none = absurd (cc none)
 
 -- where no more is used than before, nothing is taken too much
-pub not_over : (before after : Lists) (at : ℕ) (own : List Own) (quota : Quota) → used after at quota ≤ used before at quota → is_over before after at own quota ≡ false
-unfolding used weighed
+pub not_over : (before after : Lists) (at : ℕ) (own : List Own) (quota : Quota) → places_used after at quota ≤ places_used before at quota → is_over before after at own quota ≡ false
+unfolding places_used quota_weighed
 not_over before after at own quota le =
     size_over quota.size (total (usage_of before at quota)) (total (usage_of after at quota) - count_by (is_free after at quota) own) (omega (arith, le))
 
 -- a quota that is used as before isn't over
-pub untouched : (before after : Lists) (at : ℕ) (own : List Own) (quotas : List Quota) (place : ℕ) → value_at 0 (used before at) quotas place ≡ value_at 0 (used after at) quotas place → found_at (λ q. q.id) (is_over before after at own) quotas place ≡ None
+pub untouched : (before after : Lists) (at : ℕ) (own : List Own) (quotas : List Quota) (place : ℕ) → value_at 0 (places_used before at) quotas place ≡ value_at 0 (places_used after at) quotas place → found_at (λ q. q.id) (is_over before after at own) quotas place ≡ None
 untouched before after at own [] place same = refl
 untouched before after at own (q ∷ qs) zero same = ap (λ (b : Bool). if b then Some q.id else None) (not_over before after at own q (omega (arith, same)))
 untouched before after at own (q ∷ qs) (suc place) same = untouched before after at own qs place same

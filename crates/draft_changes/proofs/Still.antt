@@ -23,7 +23,7 @@ use Rattle.draft_deltas.proofs.Values.{values_add, value_of}
 use Rattle.draft_deltas.proofs.UseShifts.{use_step}
 use Rattle.draft_changes.specs.CanCome.{CanCome}
 use Rattle.draft_changes.specs.DraftState.{IsCounted, IsTotalled, AreKept}
-use Rattle.draft_changes.specs.Used.{used, raised}
+use Rattle.draft_changes.specs.Used.{places_used, usage_raised}
 use Rattle.draft_changes.proofs.Shifts.{one_step}
 
 -- of each quota those who have gone out are among the paid ones
@@ -34,12 +34,12 @@ within_at lists at (q ∷ qs) (suc place) = within_at lists at qs place
 
 -- where each count is right, so are all of them together
 pub totalled : (at : ℕ) (log : Log) (counts : List (Count Usage)) → IsCounted at log counts → IsTotalled at log counts
-unfolding used
+unfolding places_used
 totalled at log counts counted place =
     let quotas = log.base.catalogue.quotas in
-    ap (λ n. n + raised (went nothing place counts) (came nothing place counts)) (value_of nothing total (usage_of (rows_of log) at) quotas place)
+    ap (λ n. n + usage_raised (went nothing place counts) (came nothing place counts)) (value_of nothing total (usage_of (rows_of log) at) quotas place)
     ∙ total_both (value_at nothing (usage_of (rows_of log) at) quotas place) (value_at nothing (usage_of log.base at) quotas place) (went nothing place counts) (came nothing place counts) (within_at (rows_of log) at quotas place) (within_at log.base at quotas place) (counted place)
-    ∙ sym (ap (λ n. n + raised (came nothing place counts) (went nothing place counts)) (value_of nothing total (usage_of log.base at) quotas place))
+    ∙ sym (ap (λ n. n + usage_raised (came nothing place counts) (went nothing place counts)) (value_of nothing total (usage_of log.base at) quotas place))
 
 module _ (at : ℕ) (log : Log) (change : Change) where
   abbrev after : Log

@@ -3,7 +3,7 @@ use Rattle.std.specs.Prelude.{◌≡◌, ℕ, ◌≤◌, ◌<◌, ◌+◌, List,
 use Rattle.model_rows.specs.declared.rows.NextIds.{NextIds}
 use Rattle.model_rows.specs.declared.changes.Change.{Change}
 use Rattle.model_rows.specs.declared.rows.Usage.{Usage}
-use Rattle.model_rows.specs.Change.{changed}
+use Rattle.model_rows.specs.Change.{change_applied}
 use Rattle.model_rows.specs.Lists.{State}
 use Rattle.model_rows.specs.Headroom.{AllHaveHeadroom}
 use Rattle.model_rows.specs.Usage.{usage_of}
@@ -18,7 +18,7 @@ use Rattle.draft_deltas.specs.Tallied.{Tallied, reach_at, tallied_at}
 use Rattle.draft_deltas.specs.Uses.{uses_of}
 use Rattle.draft_changes.specs.declared.bases.Base.{Base}
 use Rattle.draft_changes.specs.Handed.{AreNoted}
-use Rattle.draft_changes.specs.Used.{used, raised, AreBases}
+use Rattle.draft_changes.specs.Used.{places_used, usage_raised, AreBases}
 
 -- a draft, which contracts see as its log, the next ids and its moment
 pub record DraftState : Type 0 where
@@ -54,7 +54,7 @@ IsCounted at log counts = (place : ℕ) → plus (value_at nothing (usage_of (ro
 
 -- the same of all that is used of a quota: what raises it, and what lowers it
 abbrev pub IsTotalled : ℕ → Log → List (Count Usage) → Type 0
-IsTotalled at log counts = (place : ℕ) → value_at 0 (used (rows_of log) at) log.base.catalogue.quotas place + raised (went nothing place counts) (came nothing place counts) ≡ value_at 0 (used log.base at) log.base.catalogue.quotas place + raised (came nothing place counts) (went nothing place counts)
+IsTotalled at log counts = (place : ℕ) → value_at 0 (places_used (rows_of log) at) log.base.catalogue.quotas place + usage_raised (went nothing place counts) (came nothing place counts) ≡ value_at 0 (places_used log.base at) log.base.catalogue.quotas place + usage_raised (came nothing place counts) (went nothing place counts)
 
 -- the same of the uses of each voucher
 abbrev pub AreKept : ℕ → Log → List (Count Uses) → Type 0
@@ -99,7 +99,7 @@ pub record Extends (old new : DraftState) : Type 0 where
 
 -- what comes of one more change: it is logged, and done; where there is no memory for it the draft is as it was
 pub record Makes {A E : Type 0} (change : Change) (old new : DraftState) (result : Result A E) : Type 0 where
-  pub ok : OnOk result (now new ≡ changed change (now old))
+  pub ok : OnOk result (now new ≡ change_applied change (now old))
   pub extends : Extends old new
   pub err : OnErr result (new ≡ old)
   pub log : OnOk result (new ≡ with_change change old)

@@ -12,13 +12,13 @@ use Rattle.book_tally.specs.Amounts.{adds}
 use Rattle.draft_changes.specs.declared.bases.Base.{Base}
 
 -- all that is used of a quota
-unfoldable pub used : Lists → ℕ → Quota → ℕ
-used lists at quota = total (usage_of lists at quota)
+unfoldable pub places_used : Lists → ℕ → Quota → ℕ
+places_used lists at quota = total (usage_of lists at quota)
 
 -- by how much all that is used rises where the first amount comes and the second goes, but for what it falls: of those who have gone
 -- out it is the going that adds
-abbrev pub raised : Usage → Usage → ℕ
-raised come gone = adds come + gone.exited
+abbrev pub usage_raised : Usage → Usage → ℕ
+usage_raised come gone = adds come + gone.exited
 
 -- the most that is used of a quota: its counts are five numbers of 64 bits
 abbrev pub most_used : ℕ
@@ -26,7 +26,7 @@ most_used = 92233720368547758080
 
 -- what is kept of a quota: how much the lists use of it
 pub record IsBase (lists : Lists) (at : ℕ) (quotas : List Quota) (place : ℕ) (base : Base) : Type 0 where
-  pub value : base.total ≡ value_at 0 (used lists at) quotas place
+  pub value : base.total ≡ value_at 0 (places_used lists at) quotas place
   pub few : base.total ≤ most_used
 
 -- what is kept of quotas: each at most once, in the order of their places, and how much the lists use of it

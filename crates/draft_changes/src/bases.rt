@@ -2,7 +2,7 @@
 
 ghost use Rattle.std.specs.Prelude.{◌≡◌, ◌≤◌, Some};
 ghost use Rattle.model_catalogue.specs.CatalogueLists.{quota_at};
-ghost use Rattle.draft_changes.specs.Used.{used, most_used, AreBases};
+ghost use Rattle.draft_changes.specs.Used.{places_used, most_used, AreBases};
 
 use base_sorted::{Row, place_of};
 use base_values::Moment;
@@ -77,11 +77,11 @@ fn ask_base<B: Book>(
 }
 
 /// All that is used of a quota that stands in the book.
-#[tactic(auto, unfolding(crate::specs::Used::used))]
+#[tactic(auto, unfolding(crate::specs::Used::places_used))]
 pub fn used_in_book<B: Book>(book: &B, quota: &Quota, at: Moment) -> u128
     requires moment { (B.state book.now).moment ≤ at }
     requires stands { quota_at quota.now.id (B.state book.now).lists.catalogue ≡ Some quota.now }
-    ensures value { result ≡ used (B.state book.now).lists at quota.now }
+    ensures value { result ≡ places_used (B.state book.now).lists at quota.now }
     ensures few { result ≤ most_used }
 {
     usage_of(book, quota, at).total()

@@ -6,7 +6,7 @@ ghost use Rattle.model_rows.specs.Headroom.{has_use, held, HasHeadroom, AllHaveH
 ghost use Rattle.model_rows.specs.Conditions.{is_live_cart};
 ghost use Rattle.base_sorted.specs.Tables.{AreInOrder};
 ghost use Rattle.model_rows.specs.Over.{first_over};
-ghost use Rattle.model_rows.specs.Change.{changed};
+ghost use Rattle.model_rows.specs.Change.{change_applied};
 ghost use Rattle.draft_changes.specs.DraftState.{DraftState, MarkState, IsMarkOf, Extends, Makes, now, back, with_change};
 ghost use Rattle.draft_deltas.specs.Logs.{rows_of};
 ghost use Rattle.draft_changes.specs.CanCome.{CanCome};
@@ -156,7 +156,7 @@ impl<'a, B: Book> Draft<'a, B> {
     }
 
     /// All that is used of a quota that stands.
-    #[tactic(auto, unfolding(crate::specs::Used::used))]
+    #[tactic(auto, unfolding(crate::specs::Used::places_used))]
     pub fn used(&self, quota: &Quota) -> u128
         requires { quota_at quota.now.id (now self.now).lists.catalogue ≡ Some quota.now }
         ensures { result ≡ total (usage_of (now self.now).lists (now self.now).moment quota.now) }
@@ -276,7 +276,7 @@ impl<'a, B: Book> Draft<'a, B> {
     #[tactic(auto, using(crate::proofs::CanCome::can_put_order))]
     pub fn put_order(&mut self, alloc: Global, row: Order) -> Result<(), AllocError>
         requires { AllHaveHeadroom (now self.old).moment
-            (changed (Change.PutOrder row) (now self.old)).lists }
+            (change_applied (Change.PutOrder row) (now self.old)).lists }
         ensures { Makes (Change.PutOrder row) self.old self.new result }
     {
         self.known();
@@ -290,7 +290,7 @@ impl<'a, B: Book> Draft<'a, B> {
     pub fn put_position(&mut self, alloc: Global, row: OrderPos) -> Result<(), AllocError>
         requires new { position_at row.id (now self.old).lists ≡ None }
         requires headroom { AllHaveHeadroom (now self.old).moment
-            (changed (Change.PutPosition row) (now self.old)).lists }
+            (change_applied (Change.PutPosition row) (now self.old)).lists }
         ensures { Makes (Change.PutPosition row) self.old self.new result }
     {
         self.known();
@@ -300,7 +300,7 @@ impl<'a, B: Book> Draft<'a, B> {
     // Makes one change, with what it does to all that is counted. It costs what it touches.
     fn change(&mut self, alloc: Global, change: Change) -> Result<(), AllocError>
         requires { CanCome self.old.moment self.old.log change }
-        ensures ok { OnOk result (now self.new ≡ changed change (now self.old)) }
+        ensures ok { OnOk result (now self.new ≡ change_applied change (now self.old)) }
         ensures extends { Extends self.old self.new }
         ensures err { OnErr result (self.new ≡ self.old) }
         ensures log { OnOk result (self.new ≡ with_change change self.old) }

@@ -8,7 +8,7 @@ ghost use Rattle.draft_deltas.specs.Logs.{rows_of, rows_at};
 ghost use Rattle.draft_changes.specs.Least.{over_at, IsLeast};
 ghost use Rattle.draft_changes.specs.DraftState.{log_at, IsTotalled};
 ghost use Rattle.model_catalogue.specs.declared.rows.Quota.{Quota};
-ghost use Rattle.draft_changes.specs.Used.{used, most_used, raised, AreBases, AreBases-prop};
+ghost use Rattle.draft_changes.specs.Used.{places_used, most_used, usage_raised, AreBases, AreBases-prop};
 ghost use Rattle.book_tally.specs.Counts.{newest};
 
 use crate::bases::{Base, used_in_book};
@@ -128,8 +128,8 @@ impl<'w, 'a, B: Book> Weighing<'w, 'a, B> {
         }
         let before = self.counts.at_mark(self.mark, place as u64);
         let after = self.counts.of(place as u64);
-        let more = raised(after.come, after.gone) + raised(before.gone, before.come);
-        let less = raised(before.come, before.gone) + raised(after.gone, after.come);
+        let more = usage_raised(after.come, after.gone) + usage_raised(before.gone, before.come);
+        let less = usage_raised(before.come, before.gone) + usage_raised(after.gone, after.come);
         if more <= less {
             return false;
         }
@@ -142,7 +142,7 @@ impl<'w, 'a, B: Book> Weighing<'w, 'a, B> {
     /// All that is used of a quota that stands, with the changes.
     pub fn used(&self, quota: &Quota) -> u128
         requires { quota_at quota.now.id self.now.overlay.now.base.catalogue ≡ Some quota.now }
-        ensures { result ≡ used (rows_of self.now.overlay.now) self.now.at quota.now }
+        ensures { result ≡ places_used (rows_of self.now.overlay.now) self.now.at quota.now }
     {
         self.book.catalogue().known();
         match place_of(self.quotas, quota.id) {
@@ -158,7 +158,7 @@ impl<'w, 'a, B: Book> Weighing<'w, 'a, B> {
     // How much the book uses of the quota at a place: what is known, or else its answer.
     fn base_of(&self, place: usize) -> u128
         requires { place < length self.now.quotas.now }
-        ensures value { (d : Quota) → result ≡ used self.now.overlay.now.base self.now.at
+        ensures value { (d : Quota) → result ≡ places_used self.now.overlay.now.base self.now.at
             (slice_index_or self.now.quotas.now place d) }
         ensures few { result ≤ most_used }
     {
@@ -203,8 +203,8 @@ fn is_less(key: u64, least: Option<u64>) -> bool
 }
 
 // By how much all that is used rises where the first amount comes and the second goes, but for what it falls.
-fn raised(come: Usage, gone: Usage) -> u128
-    ensures value { result ≡ raised come gone }
+fn usage_raised(come: Usage, gone: Usage) -> u128
+    ensures value { result ≡ usage_raised come gone }
     ensures few { result ≤ 110680464442257309696 }
 {
     u128::from(come.paid)
@@ -218,8 +218,9 @@ fn raised(come: Usage, gone: Usage) -> u128
 // What is used, by what was used in the book, and what came and went since.
 fn moved(base: u128, count: Count<Usage>) -> u128
     requires { base ≤ most_used }
-    ensures { result ≡ base + raised count.come count.gone - raised count.gone count.come }
+    ensures { result
+        ≡ base + usage_raised count.come count.gone - usage_raised count.gone count.come }
 {
-    let more = base + raised(count.come, count.gone);
-    more.saturating_sub(raised(count.gone, count.come))
+    let more = base + usage_raised(count.come, count.gone);
+    more.saturating_sub(usage_raised(count.gone, count.come))
 }

@@ -2,7 +2,7 @@
 
 ghost use Rattle.std.specs.Prelude.{◌≡◌, count_by};
 ghost use Rattle.std.specs.Option.{option_copied};
-ghost use Rattle.model_rows.specs.Over.{is_free, is_free_cart, is_free_position, weighed, is_over_size};
+ghost use Rattle.model_rows.specs.Over.{is_free, is_free_cart, is_free_position, quota_weighed, is_over_size};
 ghost use Rattle.model_rows.specs.Total.{total};
 ghost use Rattle.model_rows.specs.Usage.{usage_of};
 
@@ -49,7 +49,7 @@ fn free_count<R: Exits>(rows: &R, at: Moment, quota: &Quota, own: &[Own]) -> usi
 }
 
 /// Whether a request takes too much of a quota of which so much was used before, and is used now.
-#[tactic(auto, unfolding(model_rows::specs::Over::weighed))]
+#[tactic(auto, unfolding(model_rows::specs::Over::quota_weighed))]
 pub fn is_too_much<R: Exits>(
     rows: &R,
     at: Moment,
@@ -60,7 +60,7 @@ pub fn is_too_much<R: Exits>(
 ) -> bool
     requires { after ≡ total (usage_of (R.rows rows.now) at quota.now) }
     ensures { result ≡ is_over_size quota.now.size before
-        (weighed (R.rows rows.now) at quota.now own.now) }
+        (quota_weighed (R.rows rows.now) at quota.now own.now) }
 {
     let Some(size) = quota.size else {
         return false;

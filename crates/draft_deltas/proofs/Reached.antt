@@ -57,7 +57,9 @@ listed_at test id q (r ∷ rs) found absent own = by_tests (test r) refl (eqb_te
     some : (a b : Quota) → Some a ≡ Some b → a ≡ b
     some a b e = cc e
 
-    by_tests : (b : Bool) → test r ≡ b → ((eqb r.id id ≡ true) × (r.id ≡ id)) ⊎ ((eqb r.id id ≡ false) × (r.id ≢ id)) → (let o : Option Quota = if eqb r.id id then Some r else row_at (λ r. r.id) id rs in o ≡ Some q) → has id (map (λ (r : Quota). r.id) (if b then r ∷ filter test rs else filter test rs)) ≡ false → (row_at (λ r. r.id) id rs ≡ Some q → has id (map (λ (r : Quota). r.id) (filter test rs)) ≡ false → q.id ≡ id → test q ≡ false) → test q ≡ false
+    by_tests : (b : Bool) → test r ≡ b → ((eqb r.id id ≡ true) × (r.id ≡ id)) ⊎ ((eqb r.id id ≡ false) × (r.id ≢ id))
+        → (let o : Option Quota = if eqb r.id id then Some r else row_at (λ r. r.id) id rs in o ≡ Some q) → has id (map (λ (r : Quota). r.id) (if b then r ∷ filter test rs else filter test rs)) ≡ false
+        → (row_at (λ r. r.id) id rs ≡ Some q → has id (map (λ (r : Quota). r.id) (filter test rs)) ≡ false → q.id ≡ id → test q ≡ false) → test q ≡ false
     by_tests true is (inl e) found absent more = absurd (cc (sym (ap (λ x. x || has id (map (λ (r : Quota). r.id) (filter test rs))) e.0) ∙ absent))
     by_tests true is (inr e) found absent more = more (rw e.0 at found) (rw e.0 at absent) own
     by_tests false is (inl e) found absent more = ap test (sym (some r q (rw e.0 at found))) ∙ is
@@ -93,7 +95,9 @@ module _ {T : Type 0} (key : T → ℕ) (f : T → Usage) (id : ℕ) where
       rw same (value_placed (key r + 1) rs at place d h.1 (record { in_range = omega (arith, p.in_range); has_id = p.has_id }))
 
 -- the quota at the place of an id is counted
-pub more_placed : (f g : Quota → Usage) (quotas : List Quota) (id at : ℕ) (q : Quota) → AreInOrder (λ (r : Quota). r.id) quotas → IsPlace (λ (r : Quota). r.id) quotas id at → q ≡ get_or quotas at q → (x y : Usage) → x ≡ f q → y ≡ g q → (old new : List (Count Usage)) → ((key : ℕ) → came nothing key new ≡ plus (came nothing key old) (if eqb at key then x else nothing)) → ((key : ℕ) → went nothing key new ≡ plus (went nothing key old) (if eqb at key then y else nothing)) → GoesOn old new → IsMore (at_id id f) (at_id id g) quotas old new
+pub more_placed : (f g : Quota → Usage) (quotas : List Quota) (id at : ℕ) (q : Quota) → AreInOrder (λ (r : Quota). r.id) quotas → IsPlace (λ (r : Quota). r.id) quotas id at → q ≡ get_or quotas at q
+    → (x y : Usage) → x ≡ f q → y ≡ g q → (old new : List (Count Usage)) → ((key : ℕ) → came nothing key new ≡ plus (came nothing key old) (if eqb at key then x else nothing)) → ((key : ℕ) → went nothing key new ≡ plus (went nothing key old) (if eqb at key then y else nothing))
+    → GoesOn old new → IsMore (at_id id f) (at_id id g) quotas old new
 more_placed f g quotas id at q order placed is x y come gone old new comes goes on = record {
   comes = λ place. comes place ∙ ap (plus (came nothing place old)) (ap (λ n. if eqb at place then n else nothing) (come ∙ ap f is) ∙ sym (value_placed (λ (r : Quota). r.id) f id 0 quotas at place q order placed));
   goes = λ place. goes place ∙ ap (plus (went nothing place old)) (ap (λ n. if eqb at place then n else nothing) (gone ∙ ap g is) ∙ sym (value_placed (λ (r : Quota). r.id) g id 0 quotas at place q order placed));

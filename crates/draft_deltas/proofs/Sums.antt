@@ -10,7 +10,7 @@ use Rattle.model_rows.specs.Usage.{stands_as}
 use Rattle.book_tally.specs.declared.amount.Uses.{Uses}
 use Rattle.book_tally.specs.Amounts.{nothing, plus, no_uses, plus_uses}
 use Rattle.book_tally.proofs.AmountLemmas.{same_usage, alone, alone_uses}
-use Rattle.draft_deltas.specs.Shift.{order_counts, sold_as, placed, unless_kept}
+use Rattle.draft_deltas.specs.Shift.{order_counts, sold_as, usage_of_places, unless_kept}
 
 pub if_more : (u v : Usage) (b : Bool) → (if b then plus u v else u) ≡ plus u (if b then v else nothing)
 if_more u v true = refl
@@ -56,7 +56,7 @@ ended_sold (Some order) here released ended = by_status order.status ended
     by_status Expired e = refl
     by_status Cancelled e = refl
 
-pub none_placed : (waits : Bool) → placed waits 0 ≡ nothing
+pub none_placed : (waits : Bool) → usage_of_places waits 0 ≡ nothing
 none_placed true = refl
 none_placed false = refl
 

@@ -17,7 +17,9 @@ use Rattle.draft_deltas.specs.Shift.{come_of, gone_of}
 use Rattle.draft_deltas.proofs.Values.{none_more}
 
 module _ (lists : Lists) (at : ℕ) (quotas : List Quota) (counts : List (Count Usage)) where
-  pub unsold : (change : Change) → ((row : Voucher) → change ≡ PutVoucher row → ⊥) → ((row : CartPos) → change ≡ PutCart row → ⊥) → ((row : Order) → change ≡ PutOrder row → ⊥) → ((row : OrderPos) → change ≡ PutPosition row → ⊥) → ((row : Waiting) → change ≡ PutWaiting row → ⊥) → ((id : ℕ) → change ≡ DropVoucher id → ⊥) → ((id : ℕ) → change ≡ DropCart id → ⊥) → ((id : ℕ) → change ≡ DropWaiting id → ⊥) → ((row : Checkin) → change ≡ PutCheckin row → ⊥) → IsMore (come_of lists at change) (gone_of lists at change) quotas counts counts
+  pub unsold : (change : Change) → ((row : Voucher) → change ≡ PutVoucher row → ⊥) → ((row : CartPos) → change ≡ PutCart row → ⊥) → ((row : Order) → change ≡ PutOrder row → ⊥) → ((row : OrderPos) → change ≡ PutPosition row → ⊥)
+      → ((row : Waiting) → change ≡ PutWaiting row → ⊥) → ((id : ℕ) → change ≡ DropVoucher id → ⊥) → ((id : ℕ) → change ≡ DropCart id → ⊥) → ((id : ℕ) → change ≡ DropWaiting id → ⊥) → ((row : Checkin) → change ≡ PutCheckin row → ⊥)
+      → IsMore (come_of lists at change) (gone_of lists at change) quotas counts counts
   unsold (PutItem row) a b c d e f g h i = none_more quotas counts
   unsold (PutVariation row) a b c d e f g h i = none_more quotas counts
   unsold (PutQuota row) a b c d e f g h i = none_more quotas counts

@@ -61,7 +61,9 @@ held_more come gone old mid new comes goes on comes' goes' on' = record {
 }
 
 -- a use in orders that comes, with its discount
-pub used_more : (come : Option ℕ) (cents : ℕ) (old new : List (Count Uses)) → ((v : ℕ) → came no_uses v new ≡ (if names v come then plus_uses (came no_uses v old) (record { used = 1; held = 0; spent = cents }) else came no_uses v old)) → ((v : ℕ) → went no_uses v new ≡ (if names v come then plus_uses (went no_uses v old) no_uses else went no_uses v old)) → GoesOn old new → AreMoreUses (λ v. used_by v come cents) (λ v. no_uses) old new
+pub used_more : (come : Option ℕ) (cents : ℕ) (old new : List (Count Uses)) → ((v : ℕ) → came no_uses v new ≡ (if names v come then plus_uses (came no_uses v old) (record { used = 1; held = 0; spent = cents }) else came no_uses v old))
+    → ((v : ℕ) → went no_uses v new ≡ (if names v come then plus_uses (went no_uses v old) no_uses else went no_uses v old))
+    → GoesOn old new → AreMoreUses (λ v. used_by v come cents) (λ v. no_uses) old new
 used_more come cents old new comes goes on = record {
   comes = λ v. comes v ∙ used_one (came no_uses v old) v come cents;
   goes = λ v. goes v ∙ none_named (went no_uses v old) (names v come) ∙ sym (alone_uses (went no_uses v old));

@@ -1,5 +1,5 @@
 -- The values of a list by place, and counts that have more of them.
-use Rattle.std.specs.Prelude.{◌≡◌, ℕ, zero, suc, List, [], ◌∷◌, Option, Some, None}
+use Rattle.std.specs.Prelude.{◌≡◌, ℕ, zero, suc, List, [], ◌∷◌}
 use Rattle.model_rows.specs.declared.rows.Usage.{Usage}
 use Rattle.book_tally.specs.declared.amount.Uses.{Uses}
 use Rattle.book_tally.specs.declared.tally.Count.{Count}
@@ -11,11 +11,6 @@ abbrev pub value_at : {T A : Type 0} → A → (T → A) → List T → ℕ → 
 value_at none value [] place = none
 value_at none value (row ∷ rows) zero = value row
 value_at none value (row ∷ rows) (suc place) = value_at none value rows place
-
--- a value, where there is one to take it from
-abbrev pub if_any : {T : Type 0} → Option T → (T → ℕ) → ℕ
-if_any None value = 0
-if_any (Some row) value = value row
 
 -- the new counts have what comes and what goes at each place of the list, beside the old ones, from which they go on
 pub record IsMore {T : Type 0} (come gone : T → Usage) (list : List T) (old new : List (Count Usage)) : Type 0 where

@@ -25,7 +25,6 @@ use Rattle.book_tally.specs.Amounts.{nothing}
 use Rattle.book_usage.specs.OfOrder.{count_ordered, if_stands}
 use Rattle.book_usage.specs.Shares.{cart_share, waiting_share, exited_share}
 use Rattle.draft_overlay.specs.Purchases.{ArePurchasesOf}
-use Rattle.draft_deltas.specs.Counts.{if_any}
 use Rattle.draft_deltas.specs.declared.shift.Spot.{Spot}
 
 -- one, where it is so
@@ -38,7 +37,7 @@ spot_share at quota product voucher = once (is_in quota product && not (blocks_i
 
 -- how much a place counts in a quota, and 0 where there is none
 abbrev pub spot_counts : ℕ → Quota → Option Spot → ℕ
-spot_counts at quota spot = if_any spot (λ p. spot_share at quota p.product (option_copied p.voucher))
+spot_counts at quota spot = sum_at (λ p. spot_share at quota p.product (option_copied p.voucher)) spot
 
 -- a place of a product is in the quota and set free there, where its ticket has gone out
 abbrev pub is_free_in : Quota → Product → Bool → Bool
@@ -73,12 +72,12 @@ abbrev pub left_of : ℕ → Option Voucher → ℕ
 left_of redeemed voucher = sum_at (λ v. v.max_usages - redeemed) voucher
 
 -- so many places, of which cart positions take each or for which entries wait
-abbrev pub placed : Bool → ℕ → Usage
-placed waits count = if waits then record nothing { waiting = count } else record nothing { carts = count }
+abbrev pub usage_of_places : Bool → ℕ → Usage
+usage_of_places waits count = if waits then record nothing { waiting = count } else record nothing { carts = count }
 
 -- what comes with a cart position, if there is one
 abbrev pub cart_come : Lists → ℕ → Option CartPos → Quota → Usage
-cart_come lists at cart quota = placed false (cart_share lists at quota cart)
+cart_come lists at cart quota = usage_of_places false (cart_share lists at quota cart)
 
 -- what goes with the cart position of an id
 abbrev pub cart_gone : Lists → ℕ → ℕ → Quota → Usage
@@ -86,7 +85,7 @@ cart_gone lists at id quota = cart_come lists at (cart_at id lists) quota
 
 -- what comes with a waiting entry, if there is one
 abbrev pub waiting_come : Option Waiting → Quota → Usage
-waiting_come entry quota = placed true (waiting_share quota entry)
+waiting_come entry quota = usage_of_places true (waiting_share quota entry)
 
 -- what goes with the waiting entry of an id
 abbrev pub waiting_gone : Lists → ℕ → Quota → Usage

@@ -5,7 +5,7 @@ ghost use Rattle.std.specs.Option.{option_copied};
 ghost use Rattle.base_sorted.specs.Tables.{sum_at};
 ghost use Rattle.model_catalogue.specs.declared.rows.Quota.{Quota};
 ghost use Rattle.model_catalogue.specs.Member.{is_in};
-ghost use Rattle.model_rows.specs.declared.changes.Change.TheVariants.{PutOrder};
+ghost use Rattle.model_rows.specs.declared.changes.Change.TheVariants.{PutPosition};
 ghost use Rattle.model_rows.specs.Change.{after_change};
 ghost use Rattle.model_rows.specs.Asked.{held_in};
 ghost use Rattle.model_rows.specs.Lists.{order_at};
@@ -16,7 +16,7 @@ ghost use Rattle.book_tally.specs.Amounts.{nothing};
 ghost use Rattle.draft_deltas.specs.Counts.{IsMore};
 ghost use Rattle.draft_deltas.specs.Tallied.{CountsChange};
 ghost use Rattle.draft_deltas.specs.Touched.{NoOther, NoneElse, Keeps};
-ghost use Rattle.draft_deltas.specs.Shift.{once, spot_share, spot_counts, placed, cart_come, cart_gone, waiting_come, waiting_gone, sold_as, sale_come, sale_gone, left_of, voucher_counts, voucher_come, voucher_gone, AreTurned};
+ghost use Rattle.draft_deltas.specs.Shift.{once, spot_share, spot_counts, usage_of_places, cart_come, cart_gone, waiting_come, waiting_gone, sold_as, left_of, voucher_counts, voucher_come, voucher_gone, AreTurned};
 
 use crate::checkins::with_checkin;
 use crate::orders::with_order;
@@ -107,14 +107,14 @@ struct Spots<'s> {
 }
 
 impl<'s> Share for Spots<'s> {
-    ghost come = { λ s q. placed s.waits (spot_counts s.at q s.come) };
+    ghost come = { λ s q. usage_of_places s.waits (spot_counts s.at q s.come) };
 
-    ghost gone = { λ s q. placed s.waits (spot_counts s.at q s.gone) };
+    ghost gone = { λ s q. usage_of_places s.waits (spot_counts s.at q s.gone) };
 
     fn shares(&self, quota: &Quota) -> Shares {
         Shares {
-            come: placed(self.waits, spot_counts(self.at, quota, &self.come)),
-            gone: placed(self.waits, spot_counts(self.at, quota, &self.gone)),
+            come: usage_of_places(self.waits, spot_counts(self.at, quota, &self.come)),
+            gone: usage_of_places(self.waits, spot_counts(self.at, quota, &self.gone)),
         }
     }
 
@@ -131,8 +131,8 @@ impl<'s> Share for Spots<'s> {
 }
 
 // So many places in carts, or for which entries wait.
-fn placed(waits: bool, count: u64) -> Usage
-    ensures { result ≡ placed waits count }
+fn usage_of_places(waits: bool, count: u64) -> Usage
+    ensures { result ≡ usage_of_places waits count }
 {
     if waits {
         Usage {
@@ -363,10 +363,8 @@ fn with_position<B: Book>(
     counts: &mut Tally<Usage>,
     row: &OrderPos,
 ) -> Result<(), AllocError>
-    ensures more { OnOk result (IsMore
-        (sale_come (rows_of overlay.now) row.now)
-        (sale_gone (rows_of overlay.now) at row.now)
-        catalogue.now.lists.quotas counts.old counts.new) }
+    ensures more { OnOk result
+        (CountsChange (PutPosition row.now) overlay.now at catalogue.now counts.old counts.new) }
     ensures err { OnErr result (counts.new ≡ counts.old) }
 {
     let order = overlay.order(row.order);

@@ -11,12 +11,21 @@ use Rattle.draft_overlay.specs.Logs.{Log}
 pub use Rattle.book_log.proofs.Indexes.{when_ok}
 use Rattle.book_log.specs.Places.{further, touches, last_place}
 use Rattle.book_log.specs.Puts.{voucher_put}
-use Rattle.draft_overlay.specs.Coded.{passes_if, IsLeast, lesser, IsBelow, IsFrom, HasCode, IsPutAt, IsPutBelow, IsPutFrom, put_if}
+use Rattle.draft_overlay.specs.Coded.{passes_if, IsLeast, lesser, IsBelow, HasCode, IsPutBelow, put_if}
 use Rattle.book_log.specs.Keys.{digest_from, digest, code_key, code_keys}
 use Rattle.book_log.proofs.LastPlaces.{last_within, last_passes, some_is}
 use Rattle.book_log.proofs.EarlierPlaces.{height}
 use Rattle.book_log.proofs.RowSteps.{voucher_touched}
-use Rattle.draft_overlay.proofs.Coded.{lesser_least, least_as, put_is}
+use Rattle.draft_overlay.proofs.Coded.{IsPutAt, lesser_least, least_as, put_is}
+
+-- a place that is at the front or behind it
+abbrev pub IsFrom : ℕ → Option ℕ → Type 0
+IsFrom front None = ⊥
+IsFrom front (Some place) = front ≤ place
+
+-- the last change that touches it is there
+abbrev pub IsPutFrom : ℕ → List ℕ → Log → ℕ → Type 0
+IsPutFrom front code log id = HasCode code log id × IsFrom front (last_place (touches 3 id) log.changes)
 
 -- behind the last place that passes, none does
 module _ {T : Type 0} (passes : T → Bool) where

@@ -15,10 +15,14 @@ use Rattle.model_rows.proofs.EachRow.{key-row_at}
 use Rattle.model_rows.proofs.Found.{row_at_found}
 use Rattle.draft_overlay.specs.Logs.{Log, rows_of}
 use Rattle.book_log.specs.Places.{touches, last_place}
-use Rattle.draft_overlay.specs.Coded.{passes_if, IsLeast, lesser, IsBelow, HasCode, IsPutBelow, IsUnchanged, IsPutAt, is_place, put_if}
+use Rattle.draft_overlay.specs.Coded.{passes_if, IsLeast, lesser, IsBelow, HasCode, IsPutBelow, IsUnchanged, is_place, put_if}
 use Rattle.book_log.specs.Puts.{voucher_put}
 use Rattle.book_log.proofs.LastPlaces.{last_within, last_passes, some_is}
 use Rattle.book_log.proofs.RowSteps.{voucher_kept, voucher_touched}
+
+-- the voucher whose last change is the one at this place
+abbrev pub IsPutAt : ℕ → List ℕ → Log → ℕ → Type 0
+IsPutAt place code log id = HasCode code log id × (last_place (touches 3 id) log.changes ≡ Some place)
 
 -- two least ones are the same
 pub least_same : (P : ℕ → Type 0) (a b : Option ℕ) → IsLeast P a → IsLeast P b → a ≡ b

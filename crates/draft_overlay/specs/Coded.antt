@@ -41,10 +41,6 @@ IsPutBelow count code log id = HasCode code log id × IsBelow count (last_place 
 abbrev pub IsUnchanged : List ℕ → Log → ℕ → Type 0
 IsUnchanged code log id = HasCode code log id × (last_place (touches 3 id) log.changes ≡ None)
 
--- the voucher whose last change is the one at this place
-abbrev pub IsPutAt : ℕ → List ℕ → Log → ℕ → Type 0
-IsPutAt place code log id = HasCode code log id × (last_place (touches 3 id) log.changes ≡ Some place)
-
 -- it is this place
 abbrev pub is_place : ℕ → Option ℕ → Bool
 is_place place None = false
@@ -55,19 +51,6 @@ abbrev pub put_if : List ℕ → ℕ → Log → Change → Option ℕ
 put_if code place log (PutVoucher row) = if same_text row.code code && is_place place (last_place (touches 3 row.id) log.changes) then Some row.id else None
 put_if code place log _ = None
 
--- the book's voucher has the code, and no change touches it
-abbrev pub is_unchanged_with : List ℕ → Log → Voucher → Bool
-is_unchanged_with code log v = same_text v.code code && is_none (last_place (touches 3 v.id) log.changes)
-
--- the id of the book's first one
+-- the id of the book's first voucher that has the code and that no change touches
 abbrev pub first_unchanged : List ℕ → Log → Option ℕ
-first_unchanged code log = option_map (λ v. v.id) (find (is_unchanged_with code log) log.base.vouchers)
-
--- a place that is at the front or behind it
-abbrev pub IsFrom : ℕ → Option ℕ → Type 0
-IsFrom front None = ⊥
-IsFrom front (Some place) = front ≤ place
-
--- the last change that touches it is there
-abbrev pub IsPutFrom : ℕ → List ℕ → Log → ℕ → Type 0
-IsPutFrom front code log id = HasCode code log id × IsFrom front (last_place (touches 3 id) log.changes)
+first_unchanged code log = option_map (λ v. v.id) (find (λ (v : Voucher). same_text v.code code && is_none (last_place (touches 3 v.id) log.changes)) log.base.vouchers)

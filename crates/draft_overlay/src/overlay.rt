@@ -6,6 +6,8 @@ ghost use Rattle.model_rows.specs.Lists.{cart_at, order_at, waiting_at, checkin_
 ghost use Rattle.model_rows.specs.Named.{voucher_of, is_used};
 ghost use Rattle.model_rows.specs.Passages.{last_at};
 ghost use Rattle.book_usage.specs.Naming.{naming};
+ghost use Rattle.book_usage.specs.Limits.{most_listed, most_spent};
+ghost use Rattle.draft_overlay.specs.Limits.{most_changes, most_with_changes};
 ghost use Rattle.draft_overlay.specs.Names.{name_gone, touches_names};
 ghost use Rattle.draft_overlay.specs.Coded.{IsLeast, lesser, IsPutBelow, IsUnchanged, is_place, put_if, first_unchanged};
 ghost use Rattle.book_log.specs.Places.{touches, touches_table, last_place};
@@ -37,6 +39,9 @@ use model_rows::{
 };
 use std::alloc::{AllocError, Global};
 use std::marker::Model;
+
+/// The most changes that an overlay takes: 2^32.
+const MOST_CHANGES: usize = 4_294_967_296;
 
 /// The rows of a book, with changes that aren't applied yet.
 #[derive(Drop)]
@@ -244,7 +249,7 @@ impl<'a, B: Book> Overlay<'a, B> {
         let count = self.log.len();
         let key = code_key(&change);
         self.log.push(change)?;
-        if count == 4294967296 || self.codes.push(key).is_err() {
+        if count == MOST_CHANGES || self.codes.push(key).is_err() {
             self.log.truncate(count);
             return Err(AllocError);
         }
@@ -254,7 +259,7 @@ impl<'a, B: Book> Overlay<'a, B> {
     /// How often orders that stand use the voucher.
     pub fn redeemed(&self, voucher: u64) -> u64
         ensures value { result ≡ redeemed voucher (rows_of self.now) }
-        ensures few { result ≤ 8589934592 }
+        ensures few { result ≤ most_with_changes }
     {
         let mut count = self.book.redeemed(voucher);
         if !self.may_turn(voucher) {
@@ -290,7 +295,7 @@ impl<'a, B: Book> Overlay<'a, B> {
     /// How often the voucher was used before the changes: by orders that stood and by carts that are live at a moment.
     pub fn uses_before(&self, voucher: u64, at: Moment) -> u64
         ensures value { result ≡ redeemed voucher self.now.base + held at voucher self.now.base }
-        ensures few { result ≤ 8589934592 }
+        ensures few { result ≤ most_with_changes }
     {
         self.book.redeemed(voucher) + self.book.held(voucher, at)
     }
@@ -298,7 +303,7 @@ impl<'a, B: Book> Overlay<'a, B> {
     /// What was spent of the voucher before the changes, in cents.
     pub fn spent_before(&self, voucher: u64) -> u128
         ensures value { result ≡ spent voucher self.now.base }
-        ensures few { result ≤ 42949672955705032704 }
+        ensures few { result ≤ most_spent }
     {
         self.book.spent(voucher)
     }
@@ -307,9 +312,9 @@ impl<'a, B: Book> Overlay<'a, B> {
     fn redeemed_after(&self, i: usize, voucher: u64, count: u64) -> u64
         requires place { i < length self.now.changes }
         requires before { count ≡ redeemed voucher (rows_at i self.now) }
-        requires few { count ≤ 4294967296 + i }
+        requires few { count ≤ most_listed + i }
         ensures value { result ≡ redeemed voucher (rows_at (i + 1) self.now) }
-        ensures few { result ≤ 4294967296 + i + 1 }
+        ensures few { result ≤ most_listed + i + 1 }
     {
         self.book.known();
         match self.log.get(i) {
@@ -352,7 +357,7 @@ impl<'a, B: Book> Overlay<'a, B> {
     pub fn count_ordered<T: PositionTest>(&self, i: usize, order: u64, test: &T) -> u64
         requires { i ≤ length self.now.changes }
         ensures value { result ≡ count_ordered order (T.passes test.now) (rows_at i self.now) }
-        ensures few { result ≤ 8589934592 }
+        ensures few { result ≤ most_with_changes }
     {
         self.book.known();
         let kept = self.book.count_ordered(order, test);
@@ -378,7 +383,7 @@ impl<'a, B: Book> Overlay<'a, B> {
         requires { i ≤ length self.now.changes }
         ensures value { result
             ≡ count_by (puts_ordered order (T.passes test.now)) (take i self.now.changes) }
-        ensures few { result ≤ 4294967296 }
+        ensures few { result ≤ most_changes }
     {
         if !self.puts_positions() {
             return 0;
@@ -393,7 +398,7 @@ impl<'a, B: Book> Overlay<'a, B> {
     /// How many cart positions that are live at a moment name the voucher.
     pub fn held(&self, voucher: u64, at: Moment) -> u64
         ensures value { result ≡ held at voucher (rows_of self.now) }
-        ensures few { result ≤ 8589934592 }
+        ensures few { result ≤ most_with_changes }
     {
         let count = self.book.held(voucher, at);
         self.count_carts(count, &Holds { at, voucher })
@@ -410,9 +415,9 @@ impl<'a, B: Book> Overlay<'a, B> {
     // How many cart positions pass the test, by the number in the book.
     fn count_carts<T: CartCondition>(&self, book: u64, test: &T) -> u64
         requires before { book ≡ count_by (T.passes test.now) self.now.base.carts }
-        requires few { book ≤ 4294967296 }
+        requires few { book ≤ most_listed }
         ensures value { result ≡ count_by (T.passes test.now) (rows_of self.now).carts }
-        ensures few { result ≤ 8589934592 }
+        ensures few { result ≤ most_with_changes }
     {
         if !self.touches_carts() {
             return book;
@@ -428,9 +433,9 @@ impl<'a, B: Book> Overlay<'a, B> {
     fn count_after<T: CartCondition>(&self, i: usize, test: &T, count: u64) -> u64
         requires place { i < length self.now.changes }
         requires before { count ≡ count_by (T.passes test.now) (rows_at i self.now).carts }
-        requires few { count ≤ 4294967296 + i }
+        requires few { count ≤ most_listed + i }
         ensures value { result ≡ count_by (T.passes test.now) (rows_at (i + 1) self.now).carts }
-        ensures few { result ≤ 4294967296 + i + 1 }
+        ensures few { result ≤ most_listed + i + 1 }
     {
         self.book.known();
         match self.log.get(i) {
@@ -466,8 +471,8 @@ impl<'a, B: Book> Overlay<'a, B> {
 
     /// Ids rise in each list of sales, no list is too long to be counted, and what is for sale hasn't changed.
     pub fn known(&self)
-        ensures kept { IsKept (4294967296 + length self.now.changes) (rows_of self.now) }
-        ensures few { length self.now.changes ≤ 4294967296 }
+        ensures kept { IsKept (most_listed + length self.now.changes) (rows_of self.now) }
+        ensures few { length self.now.changes ≤ most_changes }
         ensures sales { AreSales self.now.changes self.now.base }
     {
         self.book.known();
@@ -476,7 +481,7 @@ impl<'a, B: Book> Overlay<'a, B> {
     /// How many changes there are: at most 2^32.
     pub fn len(&self) -> usize
         ensures value { result ≡ length self.now.changes }
-        ensures few { result ≤ 4294967296 }
+        ensures few { result ≤ most_changes }
     {
         self.log.len()
     }

@@ -18,7 +18,7 @@ use Rattle.model_catalogue.specs.ItemAdded.{item_added}
 use Rattle.model_catalogue.specs.ItemChanged.{item_changed}
 use Rattle.model_catalogue.specs.VariationAdded.{variation_added}
 use Rattle.model_catalogue.specs.QuotaAdded.{quota_added}
-use Rattle.model_catalogue.specs.Resized.{resized}
+use Rattle.model_catalogue.specs.Resized.{quota_resized}
 use Rattle.model_catalogue.specs.CatalogueLists.{CatalogueLists}
 use Rattle.model_catalogue.proofs.Added.{resized_is}
 use Rattle.model_rows.specs.declared.changes.Change.{Change}
@@ -29,7 +29,7 @@ use Rattle.model_rows.specs.declared.rows.OrderPos.{OrderPos}
 use Rattle.model_rows.specs.declared.rows.OrderRows.{OrderRows}
 use Rattle.model_rows.specs.declared.rows.Voucher.{Voucher}
 use Rattle.model_rows.specs.declared.rows.Waiting.{Waiting}
-use Rattle.model_rows.specs.Consumed.{consumed}
+use Rattle.model_rows.specs.Consumed.{carts_consumed}
 use Rattle.model_rows.specs.Due.{dead_carts}
 use Rattle.model_rows.specs.Lists.{State}
 use Rattle.model_rows.proofs.EachRow.{all-row_at}
@@ -49,9 +49,9 @@ use Rattle.decide_waiting.specs.Joined.{entry_joined}
 use Rattle.decide_waiting.specs.Changed.{entry_changed}
 use Rattle.decide_waiting.specs.Left.{entry_left}
 use Rattle.decide_waiting.specs.Sending.{voucher_sent, with_sent}
-use Rattle.decide_waiting.specs.Serving.{all_changes, served, served_changes}
+use Rattle.decide_waiting.specs.Serving.{all_changes, entries_served, served_changes}
 use Rattle.decide_door.specs.ListAdded.{list_added}
-use Rattle.decide_door.specs.Scanned.{puts_by, scan_puts, scanned, verdict_of}
+use Rattle.decide_door.specs.Scanned.{puts_by, scan_puts, ticket_scanned, verdict_of}
 use Rattle.decide_door.specs.declared.verdict.Admission.{Admission}
 use Rattle.decide_door.specs.declared.verdict.Admission.TheVariants as admission
 use Rattle.decide_door.proofs.Added.{added_is}
@@ -78,11 +78,11 @@ use Rattle.model_commands.specs.declared.waiting.NewWaiting.{NewWaiting}
 use Rattle.model_commands.specs.declared.waiting.WaitingPatch.{WaitingPatch}
 use Rattle.model_commands.specs.declared.waiting.WaitingRefusal.{WaitingRefusal}
 use Rattle.office_step.specs.Changes.{changes_of, sending_changes}
-use Rattle.office_step.specs.PeriodicWork.{ended, periodic_changes}
+use Rattle.office_step.specs.PeriodicWork.{pending_ended, periodic_changes}
 use Rattle.office_step.specs.ShownRows.{show_voucher}
 use Rattle.office_step.specs.Step.{item_step, item_change_step, variation_step, quota_step, resize_step, voucher_step, voucher_change_step, voucher_drop_step, cart_step, cart_drop_step, bulk_step, order_step, move_step, join_step, priority_step, leave_step, send_step, checkin_list_step, redeem_step, step_now, moment_at}
 use Rattle.office_step.proofs.Members.{added_members}
-use Rattle.office_runs.specs.Runs.{Arrival, IsFitArrival, stepped, trace}
+use Rattle.office_runs.specs.Runs.{Arrival, IsFitArrival, office_stepped, trace}
 use Rattle.office_runs.proofs.Runs.{sound_at, sound_after}
 use Rattle.file_meaning.specs.Lawful.{puts_come_first}
 use Rattle.file_meaning.specs.Stands.{IsRising, MembersRise}
@@ -166,12 +166,12 @@ sent draw (e ∷ es) state = (refl, (refl, sent draw es (with_sent draw e state)
 
 served_so : (draw : Draw) (state : State) → ArePlain (served_changes draw state)
 unfolding served_changes
-served_so draw state = sent draw (served state) state
+served_so draw state = sent draw (entries_served state) state
 
 worked : (draw : Draw) (state : State) → ArePlain (periodic_changes draw state)
 worked draw state =
     joined _ _ (joined _ _ (mapped PutOrder (λ _. refl) (expired_rows state.moment state.lists)) (mapped CartGoes (λ _. refl) (dead_carts (orders_expired state).moment (orders_expired state).lists)))
-    (served_so draw (ended state))
+    (served_so draw (pending_ended state))
 
 let_in : (list : ℕ) (scan : Scan) (state : State) (v : Result Admission DoorRefusal) → ArePlain (puts_by list scan state v)
 let_in list scan state (Err refusal) = tt
@@ -183,7 +183,7 @@ unfolding scan_puts
 scanned_so list ticket scan state = let_in list scan state (verdict_of list ticket scan state)
 
 ordered : (carts : List (List ℕ)) (made : OrderRows) (state : State) → ArePlain (order_changes carts made.order made.positions state.lists)
-ordered carts made state = joined _ _ (mapped CartGoes (λ _. refl) (consumed carts state.lists)) (refl, mapped PutPosition (λ _. refl) made.positions)
+ordered carts made state = joined _ _ (mapped CartGoes (λ _. refl) (carts_consumed carts state.lists)) (refl, mapped PutPosition (λ _. refl) made.positions)
 
 -- ---- quotas
 
@@ -194,7 +194,7 @@ added_rises new id lists row h =
     record { items = its.items_rise; variations = its.variations_rise }
 
 -- so do those of one that is resized, as they did before
-resized_rises : (id : ℕ) (patch : QuotaPatch) (state : State) (row : Quota) → IsSound state → resized id patch state.lists.catalogue ≡ Ok row → MembersRise row
+resized_rises : (id : ℕ) (patch : QuotaPatch) (state : State) (row : Quota) → IsSound state → quota_resized id patch state.lists.catalogue ≡ Ok row → MembersRise row
 resized_rises id patch state row sound h =
     let r = resized_is id patch state.lists.catalogue row h in
     let old = all-row_at (λ (q : Quota). q.id) (HasMembers state.lists.catalogue) id state.lists.catalogue.quotas r.old r.stood sound.members in
@@ -222,7 +222,7 @@ module _ (draw : Draw) (state : State) where
   quota_taken new (Err refusal) h = none
   quota_taken new (Ok row) h = record { rising = (added_rises new state.next.quota state.lists.catalogue row h, tt); first = refl }
 
-  resize_taken : (id : ℕ) (patch : QuotaPatch) → IsSound state → (r : Result Quota CatalogueRefusal) → resized id patch state.lists.catalogue ≡ r → Taken (ResizeQuota id patch) draw state (resize_step state r)
+  resize_taken : (id : ℕ) (patch : QuotaPatch) → IsSound state → (r : Result Quota CatalogueRefusal) → quota_resized id patch state.lists.catalogue ≡ r → Taken (ResizeQuota id patch) draw state (resize_step state r)
   resize_taken id patch sound (Err refusal) h = none
   resize_taken id patch sound (Ok row) h = record { rising = (resized_rises id patch state row sound h, tt); first = refl }
 
@@ -296,7 +296,7 @@ step_taken (AddItem new) draw state sound = item_taken draw state new (item_adde
 step_taken (ChangeItem id patch) draw state sound = item_change_taken draw state id patch (item_changed id patch state.lists.catalogue)
 step_taken (AddVariation item new) draw state sound = variation_taken draw state item new (variation_added item new state.next.variation state.lists.catalogue)
 step_taken (AddQuota new) draw state sound = quota_taken draw state new (quota_added new state.next.quota state.lists.catalogue) refl
-step_taken (ResizeQuota id patch) draw state sound = resize_taken draw state id patch sound (resized id patch state.lists.catalogue) refl
+step_taken (ResizeQuota id patch) draw state sound = resize_taken draw state id patch sound (quota_resized id patch state.lists.catalogue) refl
 step_taken (AddVoucher new) draw state sound = voucher_taken draw state new (voucher_made new draw state)
 step_taken (ChangeVoucher id patch) draw state sound = voucher_change_taken draw state id patch (voucher_changed id patch state)
 step_taken (DropVoucher id) draw state sound = voucher_drop_taken draw state id (voucher_deleted id state)
@@ -312,11 +312,11 @@ step_taken (DropWaiting id) draw state sound = leave_taken draw state id (entry_
 step_taken (SendVoucher id) draw state sound = send_taken draw state id (voucher_sent id draw state)
 step_taken Periodic draw state sound = plain _ (worked draw state)
 step_taken (AddCheckinList new) draw state sound = list_taken draw state new (list_added new state) refl
-step_taken (Redeem list ticket scan) draw state sound = redeem_taken draw state list ticket scan (scanned list ticket scan state)
+step_taken (Redeem list ticket scan) draw state sound = redeem_taken draw state list ticket scan (ticket_scanned list ticket scan state)
 
 pub all_taken : (arrivals : List Arrival) (state : State) → AllByRecursion IsFitArrival arrivals → IsSound state → AllByRecursion TakesItsChanges (trace arrivals state)
 all_taken [] state fit sound = tt
 all_taken (arrival ∷ arrivals) state fit sound = (
   step_taken arrival.command arrival.draw (record state { moment = moment_at arrival.clock state }) (sound_at arrival state sound),
-  all_taken arrivals (stepped arrival state).after fit.1 (sound_after arrival state fit.0 sound),
+  all_taken arrivals (office_stepped arrival state).after fit.1 (sound_after arrival state fit.0 sound),
 )

@@ -11,12 +11,12 @@ use Rattle.base_sorted.proofs.Edits.{row_at_above, row_at-with_row}
 use Rattle.model_rows.specs.declared.changes.Change.{Change}
 use Rattle.model_rows.specs.declared.count_rows.QuotaCount.{QuotaCount}
 use Rattle.model_rows.specs.declared.count_rows.VoucherCount.{VoucherCount}
-use Rattle.model_rows.specs.Change.{Changed, applied}
+use Rattle.model_rows.specs.Change.{Changed, changes_applied}
 use Rattle.model_rows.specs.CountRows.{CountRows, counts_after, quota_counts, voucher_counts, quota_count}
 use Rattle.model_rows.specs.Lists.{State}
 use Rattle.model_answers.specs.declared.kept.Kept.{Kept}
 use Rattle.model_answers.specs.KeptAnswers.{lasts}
-use Rattle.model_answers.specs.ShopView.{listed, with_kept}
+use Rattle.model_answers.specs.ShopView.{kept_listed, with_kept}
 use Rattle.file_rows.specs.declared.rows.ShopRow.{ShopRow}
 use Rattle.file_rows.specs.declared.rows.KeptRow.{KeptRow}
 use Rattle.file_rows.specs.declared.rows.VoucherRow.{VoucherRow}
@@ -28,7 +28,7 @@ use Rattle.file_rows.specs.Tables.{Tables}
 use Rattle.file_meaning.specs.Counts.{with_all, CountsKept}
 use Rattle.file_meaning.specs.Free.{IsFree}
 use Rattle.file_meaning.specs.Lawful.{puts_come_first}
-use Rattle.file_meaning.specs.Made.{set_redeemed, made, next_after, put_shop, put_count, put_exit, put_uses, each, counted, with_listed, without_past, done}
+use Rattle.file_meaning.specs.Made.{set_redeemed, changes_made, next_after, put_shop, put_count, put_exit, put_uses, each, with_counts, with_listed, without_past, commit_made}
 use Rattle.file_meaning.specs.Rows.{Redeemed, head_of_redeemed, rows_of, redeemed_in}
 use Rattle.file_meaning.specs.Stands.{AreRowsOf, AreOrdered, IsRising, Stand}
 use Rattle.file_meaning.proofs.Changed.{part_put, row_put}
@@ -152,20 +152,20 @@ all_put_exits (c ∷ cs) t xs h same =
     all_put_exits cs (put_exit c t) (with_row of_exit (head_of_exit c) xs) (put_stays of_exit (head_of_exit c) xs h) (row_put of_exit (head_of_exit c) t.exits xs h same)
 
 -- beside those of vouchers, only the counts of quotas and their exits differ
-quotas_set : (counts : CountRows) (t : Tables) → counted counts t ≡ record (each put_uses counts.vouchers t) { counts = (counted counts t).counts; exits = (counted counts t).exits }
+quotas_set : (counts : CountRows) (t : Tables) → with_counts counts t ≡ record (each put_uses counts.vouchers t) { counts = (with_counts counts t).counts; exits = (with_counts counts t).exits }
 quotas_set counts t =
     let set = each put_uses counts.vouchers t in
     let used = each put_count counts.quotas set in
     exits_is counts.exits used
-    ∙ ap (λ (u : Tables). record u { exits = (counted counts t).exits }) (counts_is counts.quotas set)
-    ∙ ap (λ (u : Tables). record set { counts = u.counts; exits = (counted counts t).exits }) (sym (exits_is counts.exits used))
+    ∙ ap (λ (u : Tables). record u { exits = (with_counts counts t).exits }) (counts_is counts.quotas set)
+    ∙ ap (λ (u : Tables). record set { counts = u.counts; exits = (with_counts counts t).exits }) (sym (exits_is counts.exits used))
 
 -- the tables with the counts: only the vouchers' counters and what is spent of them, and the counts of quotas and their exits differ
-pub counted_is : (counts : CountRows) (t : Tables) → counted counts t ≡ record t { vouchers = (counted counts t).vouchers; counts = (counted counts t).counts; exits = (counted counts t).exits; spents = (counted counts t).spents }
+pub counted_is : (counts : CountRows) (t : Tables) → with_counts counts t ≡ record t { vouchers = (with_counts counts t).vouchers; counts = (with_counts counts t).counts; exits = (with_counts counts t).exits; spents = (with_counts counts t).spents }
 counted_is counts t =
     quotas_set counts t
-    ∙ ap (λ (u : Tables). record u { counts = (counted counts t).counts; exits = (counted counts t).exits }) (set_is counts.vouchers t)
-    ∙ ap (λ (v : Tables). record t { vouchers = v.vouchers; counts = (counted counts t).counts; exits = (counted counts t).exits; spents = v.spents }) (sym (quotas_set counts t))
+    ∙ ap (λ (u : Tables). record u { counts = (with_counts counts t).counts; exits = (with_counts counts t).exits }) (set_is counts.vouchers t)
+    ∙ ap (λ (v : Tables). record t { vouchers = v.vouchers; counts = (with_counts counts t).counts; exits = (with_counts counts t).exits; spents = v.spents }) (sym (quotas_set counts t))
 
 -- ---- all counts that are listed stand
 
@@ -198,7 +198,7 @@ all_same f g is (c ∷ cs) h = (is c.voucher ∙ h.0, all_same f g is cs h.1)
 
 -- ---- kept answers
 
-listed_kept : (rowid : ℕ) (o : Option (Bor Kept)) (t : Tables) (ks : List Kept) → IsPermutation (map (λ r. r.kept) t.kept) ks → IsPermutation (map (λ r. r.kept) (with_listed rowid (listed o) t).kept) (ks ++ listed o)
+listed_kept : (rowid : ℕ) (o : Option (Bor Kept)) (t : Tables) (ks : List Kept) → IsPermutation (map (λ r. r.kept) t.kept) ks → IsPermutation (map (λ r. r.kept) (with_listed rowid (kept_listed o) t).kept) (ks ++ kept_listed o)
 listed_kept rowid None t ks h = subst (IsPermutation (map (λ r. r.kept) t.kept)) (sym (append-nil ks)) h
 listed_kept rowid (Some k) t ks h =
     IsPermutation-trans (k.now ∷ map (λ r. r.kept) t.kept) (k.now ∷ ks) (ks ++ k.now ∷ []) (IsPermutation-cons k.now (map (λ r. r.kept) t.kept) ks h) (IsPermutation-sym (ks ++ k.now ∷ []) (k.now ∷ ks) (IsPermutation-to_front ks k.now))
@@ -228,21 +228,21 @@ all_but_kept at rowid [] t = refl
 all_but_kept at rowid (k ∷ ks) t = refl
 
 module _ (old shop : ShopRow) (changes : Changed) (counts : CountRows) (from at : ℕ) (o : Option (Bor Kept)) (moment : shop.moment ≡ at) (number : shop.next ≡ changes.next) (rising : AllByRecursion IsRising changes.list) (first : puts_come_first false changes.list ≡ true) (t : Tables) (s : State) (ks : List Kept)
-    (right : counts ≡ counts_after s (applied changes at s)) (h : Stand old t s ks) (free : IsFree from t) where
+    (right : counts ≡ counts_after s (changes_applied changes at s)) (h : Stand old t s ks) (free : IsFree from t) where
   abbrev start : Tables
   start = put_shop shop t
 
   abbrev mid : Tables
-  mid = made changes.list from start
+  mid = changes_made changes.list from start
 
   abbrev full : Tables
-  full = counted counts mid
+  full = with_counts counts mid
 
   abbrev end : Tables
-  end = done shop changes.list counts from (listed o) at t
+  end = commit_made shop changes.list counts from (kept_listed o) at t
 
   abbrev after : State
-  after = applied changes at s
+  after = changes_applied changes at s
 
   start_free : IsFree from start
   start_free = record { quota_items = free.quota_items; quota_variations = free.quota_variations; list_items = free.list_items; kept = free.kept }
@@ -260,7 +260,7 @@ module _ (old shop : ShopRow) (changes : Changed) (counts : CountRows) (from at 
   full_is = counted_is counts mid
 
   end_is : end ≡ record full { kept = end.kept }
-  end_is = all_but_kept at (next_after changes.list from) (listed o) full
+  end_is = all_but_kept at (next_after changes.list from) (kept_listed o) full
 
   vouchers_in_order : AreInOrder (λ v. v.id) s.lists.vouchers
   vouchers_in_order = h.ordered.ids.vouchers
@@ -327,13 +327,13 @@ module _ (old shop : ShopRow) (changes : Changed) (counts : CountRows) (from at 
       ap (λ (u : Tables). map (λ (r : VoucherRow). r.voucher) u.vouchers) (quotas_set counts mid) ∙ set_vouchers_same counts.vouchers mid in
       subst (λ (u : Tables). AreRowsOf after.lists (rows_of u)) (sym full_is) (set_vouchers lists.1 (subst (λ l. IsPermutation l (map head_of_voucher after.lists.vouchers)) (sym same) lists.1.vouchers))
 
-  kept_end : IsPermutation (map (λ r. r.kept) end.kept) (with_kept at ks (listed o))
+  kept_end : IsPermutation (map (λ r. r.kept) end.kept) (with_kept at ks (kept_listed o))
   kept_end =
       let same : full.kept ≡ t.kept = ap (λ (u : Tables). u.kept) full_is ∙ as_was.kept in
       let one = past at full.kept ks (subst (λ (l : List KeptRow). IsPermutation (map (λ r. r.kept) l) ks) (sym same) h.kept) in
       let two = listed_kept (next_after changes.list from) o (without_past at full) (filter (λ k. lasts at k.at) ks) one in
-      let three = past at (with_listed (next_after changes.list from) (listed o) (without_past at full)).kept _ two in
-      subst (IsPermutation (map (λ r. r.kept) end.kept)) (past_twice at ks (listed o)) three
+      let three = past at (with_listed (next_after changes.list from) (kept_listed o) (without_past at full)).kept _ two in
+      subst (IsPermutation (map (λ r. r.kept) end.kept)) (past_twice at ks (kept_listed o)) three
 
   shop_end : end.shop ≡ shop ∷ []
   shop_end =
@@ -343,7 +343,7 @@ module _ (old shop : ShopRow) (changes : Changed) (counts : CountRows) (from at 
       ∙ ap (λ (l : List ShopRow). shop ∷ l) (none_left t.shop)
 
   -- the changes, the counts that differ and the answer, all at the moment, and what is past is gone
-  pub carried : Stand shop end after (with_kept at ks (listed o))
+  pub carried : Stand shop end after (with_kept at ks (kept_listed o))
   carried = record {
     shop_is = shop_end;
     moment = moment;
@@ -359,7 +359,7 @@ module _ (old shop : ShopRow) (changes : Changed) (counts : CountRows) (from at 
 
 -- ---- row numbers after a commit
 
-pub free_counted : (counts : CountRows) (n : ℕ) (t : Tables) → IsFree n t → IsFree n (counted counts t)
+pub free_counted : (counts : CountRows) (n : ℕ) (t : Tables) → IsFree n t → IsFree n (with_counts counts t)
 free_counted counts n t h = subst (IsFree n) (sym (counted_is counts t)) (record { quota_items = h.quota_items; quota_variations = h.quota_variations; list_items = h.list_items; kept = h.kept })
 
 pub free_past : (at n : ℕ) (t : Tables) → IsFree n t → IsFree n (without_past at t)
@@ -377,26 +377,26 @@ free_listed n (k ∷ ks) t h = record {
 pub free_shop : (shop : ShopRow) (n : ℕ) (t : Tables) → IsFree n t → IsFree n (put_shop shop t)
 free_shop shop n t h = record { quota_items = h.quota_items; quota_variations = h.quota_variations; list_items = h.list_items; kept = h.kept }
 
-pub free_made : (changes : List Change) (from : ℕ) (t : Tables) → IsFree from t → IsFree (next_after changes from) (made changes from t)
-free_made changes from t h = still_free changes from (next_after changes from) t (made changes from t) (all_turned changes from t h) h
+pub free_made : (changes : List Change) (from : ℕ) (t : Tables) → IsFree from t → IsFree (next_after changes from) (changes_made changes from t)
+free_made changes from t h = still_free changes from (next_after changes from) t (changes_made changes from t) (all_turned changes from t h) h
 
-pub free_done : (shop : ShopRow) (changes : List Change) (counts : CountRows) (from : ℕ) (ks : List Kept) (at : ℕ) (t : Tables) → IsFree from t → IsFree (next_after changes from + 1) (done shop changes counts from ks at t)
+pub free_done : (shop : ShopRow) (changes : List Change) (counts : CountRows) (from : ℕ) (ks : List Kept) (at : ℕ) (t : Tables) → IsFree from t → IsFree (next_after changes from + 1) (commit_made shop changes counts from ks at t)
 free_done shop changes counts from ks at t h =
     free_past at _ _ (free_listed (next_after changes from) ks _ (free_past at _ _ (free_counted counts _ _ (free_made changes from (put_shop shop t) (free_shop shop from t h)))))
 
 -- a commit leaves the tokens as they are
-pub tokens_stay : (shop : ShopRow) (changes : List Change) (counts : CountRows) (from at : ℕ) (ks : List Kept) (t : Tables) → IsFree from t → (done shop changes counts from ks at t).tokens ≡ t.tokens
+pub tokens_stay : (shop : ShopRow) (changes : List Change) (counts : CountRows) (from at : ℕ) (ks : List Kept) (t : Tables) → IsFree from t → (commit_made shop changes counts from ks at t).tokens ≡ t.tokens
 tokens_stay shop changes counts from at ks t h =
-    let full = counted counts (made changes from (put_shop shop t)) in
+    let full = with_counts counts (changes_made changes from (put_shop shop t)) in
     ap (λ (u : Tables). u.tokens) (all_but_kept at (next_after changes from) ks full)
-    ∙ ap (λ (u : Tables). u.tokens) (counted_is counts (made changes from (put_shop shop t)))
-    ∙ (stays changes from (next_after changes from) (put_shop shop t) (made changes from (put_shop shop t)) (all_turned changes from (put_shop shop t) (free_shop shop from t h))).tokens
+    ∙ ap (λ (u : Tables). u.tokens) (counted_is counts (changes_made changes from (put_shop shop t)))
+    ∙ (stays changes from (next_after changes from) (put_shop shop t) (changes_made changes from (put_shop shop t)) (all_turned changes from (put_shop shop t) (free_shop shop from t h))).tokens
 
 -- and the shop's row is the one that it puts
-pub shop_put : (shop : ShopRow) (changes : List Change) (counts : CountRows) (from at : ℕ) (ks : List Kept) (t : Tables) → IsFree from t → (done shop changes counts from ks at t).shop ≡ shop ∷ []
+pub shop_put : (shop : ShopRow) (changes : List Change) (counts : CountRows) (from at : ℕ) (ks : List Kept) (t : Tables) → IsFree from t → (commit_made shop changes counts from ks at t).shop ≡ shop ∷ []
 shop_put shop changes counts from at ks t h =
-    let full = counted counts (made changes from (put_shop shop t)) in
+    let full = with_counts counts (changes_made changes from (put_shop shop t)) in
     ap (λ (u : Tables). u.shop) (all_but_kept at (next_after changes from) ks full)
-    ∙ ap (λ (u : Tables). u.shop) (counted_is counts (made changes from (put_shop shop t)))
-    ∙ (stays changes from (next_after changes from) (put_shop shop t) (made changes from (put_shop shop t)) (all_turned changes from (put_shop shop t) (free_shop shop from t h))).shop
+    ∙ ap (λ (u : Tables). u.shop) (counted_is counts (changes_made changes from (put_shop shop t)))
+    ∙ (stays changes from (next_after changes from) (put_shop shop t) (changes_made changes from (put_shop shop t)) (all_turned changes from (put_shop shop t) (free_shop shop from t h))).shop
     ∙ ap (λ (l : List ShopRow). shop ∷ l) (none_left t.shop)

@@ -20,7 +20,7 @@ use Rattle.file_rows.specs.Changes.{head_of_voucher}
 use Rattle.file_rows.specs.Tables.{Tables}
 use Rattle.file_meaning.specs.Free.{AreApart, AreBelow, IsFree}
 use Rattle.file_meaning.specs.Links.{Link, links_but, are_just}
-use Rattle.file_meaning.specs.Made.{made_by, next_by, made, next_after, numbered, put_links, has_position}
+use Rattle.file_meaning.specs.Made.{made_by, next_by, changes_made, next_after, links_numbered, put_links, has_position}
 use Rattle.file_meaning.specs.Rows.{Redeemed, rows_of, redeemed_in, budgets_of, discounts_of}
 use Rattle.file_meaning.specs.RowsAfter.{rows_after, redeemed_of}
 use Rattle.file_meaning.specs.Turned.{IsTurned, AreTurned}
@@ -97,22 +97,22 @@ same_number : (a b : ℕ) → (a == b) ≡ true → a ≡ b
 same_number a b e = grind (arith, nat_tests)
 
 module _ {R : Type 0} (row : ℕ → ℕ → R) (rowid : R → ℕ) (link : R → Link) (owner : ℕ) (named : (n id : ℕ) → rowid (row n id) ≡ n) (owned : (n id : ℕ) → link (row n id) ≡ record { owner = owner; member = id }) where
-  linked : (from : ℕ) (ids : List ℕ) (rows : List R) → IsPermutation (map link (numbered row from ids rows)) (of_owner owner ids ++ map link rows)
+  linked : (from : ℕ) (ids : List ℕ) (rows : List R) → IsPermutation (map link (links_numbered row from ids rows)) (of_owner owner ids ++ map link rows)
   linked from [] rows = IsPermutation-refl _
   linked from (id ∷ ids) rows =
       IsPermutation-trans _ _ _ (linked (from + 1) ids (row from id ∷ rows))
       (subst (λ l. IsPermutation (of_owner owner ids ++ l ∷ map link rows) (record { owner = owner; member = id } ∷ (of_owner owner ids ++ map link rows))) (sym (owned from id))
       (IsPermutation-middle (of_owner owner ids) (record { owner = owner; member = id }) (map link rows)))
 
-  below_all : (from : ℕ) (ids : List ℕ) (rows : List R) → AreBelow from (map rowid rows) → AreBelow (from + length ids) (map rowid (numbered row from ids rows))
+  below_all : (from : ℕ) (ids : List ℕ) (rows : List R) → AreBelow from (map rowid rows) → AreBelow (from + length ids) (map rowid (links_numbered row from ids rows))
   below_all from [] rows h = subst (λ n. AreBelow n (map rowid rows)) (let e : from ≡ from + 0 = omega arith in e) h
   below_all from (id ∷ ids) rows h =
-      subst (λ n. AreBelow n (map rowid (numbered row (from + 1) ids (row from id ∷ rows)))) (let e : from + 1 + length ids ≡ from + length (id ∷ ids) = omega arith in e)
+      subst (λ n. AreBelow n (map rowid (links_numbered row (from + 1) ids (row from id ∷ rows)))) (let e : from + 1 + length ids ≡ from + length (id ∷ ids) = omega arith in e)
       (below_all (from + 1) ids (row from id ∷ rows) (subst (λ n. AreBelow (from + 1) (n ∷ map rowid rows)) (sym (named from id)) (below_new from (map rowid rows) h)))
 
   -- the links of an owner in the place of those that it had
-  relinked : (from : ℕ) (ids : List ℕ) (p : R → Bool) (rows : List R) → map link (filter p rows) ≡ links_but owner (map link rows) → IsPermutation (map link (numbered row from ids (filter p rows))) (of_owner owner ids ++ links_but owner (map link rows))
-  relinked from ids p rows is = subst (λ l. IsPermutation (map link (numbered row from ids (filter p rows))) (of_owner owner ids ++ l)) is (linked from ids (filter p rows))
+  relinked : (from : ℕ) (ids : List ℕ) (p : R → Bool) (rows : List R) → map link (filter p rows) ≡ links_but owner (map link rows) → IsPermutation (map link (links_numbered row from ids (filter p rows))) (of_owner owner ids ++ links_but owner (map link rows))
+  relinked from ids p rows is = subst (λ l. IsPermutation (map link (links_numbered row from ids (filter p rows))) (of_owner owner ids ++ l)) is (linked from ids (filter p rows))
 
 -- links that stay where they are just an owner's members, and else are its members anew
 module _ {R : Type 0} (owner_of member_of rowid : R → ℕ) (row : ℕ → ℕ → R) (owner : ℕ) (named : (n id : ℕ) → rowid (row n id) ≡ n) (owned : (n id : ℕ) → link_to (owner_of (row n id)) (member_of (row n id)) ≡ link_to owner id) where
@@ -143,14 +143,14 @@ module _ {R : Type 0} (owner_of member_of rowid : R → ℕ) (row : ℕ → ℕ 
       IsPermutation-trans _ _ _ (subst (λ l. IsPermutation (map link rows) (l ++ left)) first both) (IsPermutation-append_left left (of_owner owner (map member_of (own rows))) (of_owner owner ids) same)
 
   told_either : (from : ℕ) (ids : List ℕ) (rows : List R) (just : Bool) → are_just ids (map member_of (own rows)) ≡ just
-      → IsPermutation (map link (cond just rows (numbered row from ids (others rows)))) (of_owner owner ids ++ links_but owner (map link rows))
+      → IsPermutation (map link (cond just rows (links_numbered row from ids (others rows)))) (of_owner owner ids ++ links_but owner (map link rows))
   told_either from ids rows true is = links_stay ids rows is
   told_either from ids rows false is = relinked row rowid link owner named owned from ids (λ r. not (owner_of r == owner)) rows (sym (filter-map (λ (l : Link). not (l.owner == owner)) link rows))
 
   told : (from : ℕ) (ids : List ℕ) (rows : List R) → IsPermutation (map link (put_links owner_of member_of row owner from ids rows)) (of_owner owner ids ++ links_but owner (map link rows))
   told from ids rows = told_either from ids rows (are_just ids (map member_of (own rows))) refl
 
-  below_either : (from : ℕ) (ids : List ℕ) (rows : List R) (just : Bool) → AreBelow from (map rowid rows) → AreBelow (from + length ids) (map rowid (cond just rows (numbered row from ids (others rows))))
+  below_either : (from : ℕ) (ids : List ℕ) (rows : List R) (just : Bool) → AreBelow from (map rowid rows) → AreBelow (from + length ids) (map rowid (cond just rows (links_numbered row from ids (others rows))))
   below_either from ids rows true h = below_later from (from + length ids) (map rowid rows) (omega arith) h
   below_either from ids rows false h = below_all row rowid link owner named owned from ids (others rows) (below_fewer rowid from (λ r. not (owner_of r == owner)) rows h)
 
@@ -291,7 +291,7 @@ one_turned (PutCheckinList w) from t h =
     }
 one_turned (PutCheckin w) from t h = record { rows = same_rows (rows_after (PutCheckin w) (rows_of t)); redeemed = IsPermutation-refl _; spents = refl; shop = refl; counts = refl; exits = refl; tokens = refl; kept = refl; free = record { quota_items = h.quota_items; quota_variations = h.quota_variations; list_items = h.list_items; kept = h.kept } }
 
-pub all_turned : (changes : List Change) (from : ℕ) (t : Tables) → IsFree from t → AreTurned changes from (next_after changes from) t (made changes from t)
+pub all_turned : (changes : List Change) (from : ℕ) (t : Tables) → IsFree from t → AreTurned changes from (next_after changes from) t (changes_made changes from t)
 all_turned [] from t h = (refl, refl)
 all_turned (change ∷ changes) from t h =
     let one = one_turned change from t h in

@@ -31,7 +31,7 @@ use Rattle.file_rows.specs.Changes.{head_of_quota, head_of_voucher, head_of_posi
 use Rattle.file_rows.specs.Fit.{IsDigest, IsFitToken, IsFitKept}
 use Rattle.file_rows.specs.Tables.{Tables, no_rows}
 use Rattle.file_meaning.specs.Free.{IsFree}
-use Rattle.file_meaning.specs.Made.{made_by, next_by, made, next_after, put_shop, put_uses, put_count, put_exit, each, counted, with_listed, without_past, done}
+use Rattle.file_meaning.specs.Made.{made_by, next_by, changes_made, next_after, put_shop, put_uses, put_count, put_exit, each, with_counts, with_listed, without_past, commit_made}
 use Rattle.file_meaning.specs.Rows.{redeemed_in}
 use Rattle.file_meaning.specs.RowsAfter.{redeemed_of}
 use Rattle.file_meaning.proofs.Carried.{tokens_stay}
@@ -68,7 +68,7 @@ change_typed (DropWaiting id) from t is h = set_waiting h (All-filter (λ (r : W
 change_typed (PutCheckinList w) from t is h = set_checkin_lists h (put OfList (λ (r : ListRow). not (r.id == w.id)) (head_of_list w) t.checkin_lists is h.checkin_lists)
 change_typed (PutCheckin w) from t is h = set_checkins h (put IsTypedCheckin (λ (r : Checkin). not (r.id == w.id)) w t.checkins is h.checkins)
 
-changes_typed : (changes : List Change) (from : ℕ) (t : Tables) → AllByRecursion IsTypedChange changes → AreTyped t → AreTyped (made changes from t)
+changes_typed : (changes : List Change) (from : ℕ) (t : Tables) → AllByRecursion IsTypedChange changes → AreTyped t → AreTyped (changes_made changes from t)
 changes_typed [] from t is h = h
 changes_typed (change ∷ changes) from t is h = changes_typed changes (next_by change from) (made_by change from t) is.1 (change_typed change from t is.0 h)
 
@@ -96,7 +96,7 @@ exits_typed : (cs : List QuotaCount) (t : Tables) → AreTyped t → AreTyped (e
 exits_typed [] t h = h
 exits_typed (c ∷ cs) t h = exits_typed cs (put_exit c t) h
 
-counted_typed : (counts : CountRows) (t : Tables) → AreTyped t → AreTyped (counted counts t)
+counted_typed : (counts : CountRows) (t : Tables) → AreTyped t → AreTyped (with_counts counts t)
 counted_typed counts t h =
     let set = each put_uses counts.vouchers t in
     exits_typed counts.exits (each put_count counts.quotas set) (used_typed counts.quotas set (uses_typed counts.vouchers t h))
@@ -111,21 +111,21 @@ past_typed at t h = set_kept h (All-filter (λ (r : KeptRow). lasts at r.kept.at
 -- ---- a commit
 
 module _ (old shop : ShopRow) (changes : List Change) (counts : CountRows) (from : ℕ) (ks : List Kept) (at : ℕ) (t : Tables) (same : IsSameShop old shop) (of_changes : AllByRecursion IsTypedChange changes) (of_kept : AllByRecursion IsTypedKept ks) where
-  done_typed : AreTyped t → AreTyped (done shop changes counts from ks at t)
+  done_typed : AreTyped t → AreTyped (commit_made shop changes counts from ks at t)
   done_typed h =
       let start = put_shop shop t in
-      let mid = made changes from start in
-      let full = without_past at (counted counts mid) in
-      past_typed at (with_listed (next_after changes from) ks full) (listed_typed (next_after changes from) ks full of_kept (past_typed at (counted counts mid) (counted_typed counts mid (changes_typed changes from start of_changes h))))
+      let mid = changes_made changes from start in
+      let full = without_past at (with_counts counts mid) in
+      past_typed at (with_listed (next_after changes from) ks full) (listed_typed (next_after changes from) ks full of_kept (past_typed at (with_counts counts mid) (counted_typed counts mid (changes_typed changes from start of_changes h))))
 
-  pub committed_typed : IsFree from t → IsTypedShop old t → IsTypedShop shop (done shop changes counts from ks at t)
+  pub committed_typed : IsFree from t → IsTypedShop old t → IsTypedShop shop (commit_made shop changes counts from ks at t)
   committed_typed free h = record {
     first = same.version ∙ h.first;
     organizer = subst IsSlug (sym same.organizer) h.organizer;
     event = subst IsSlug (sym same.event) h.event;
     token = subst (IsNextId last_id) (sym same.token) h.token;
     numbered =
-        subst (λ n. AllByRecursion (λ (w : Token). w.id < n) (done shop changes counts from ks at t).tokens) (sym same.token)
+        subst (λ n. AllByRecursion (λ (w : Token). w.id < n) (commit_made shop changes counts from ks at t).tokens) (sym same.token)
         (subst (λ l. AllByRecursion (λ (w : Token). w.id < old.next_token) l) (sym (tokens_stay shop changes counts from at ks t free)) h.numbered);
     rows = done_typed h.rows;
   }

@@ -44,13 +44,13 @@ set_redeemed c t = record t { vouchers = map (λ r. if r.voucher.id == c.voucher
 -- ---- links, whose rows are numbered from this number on
 
 -- a link to each of these ids, with one row number after another, beside the links that are there
-abbrev pub numbered : {R : Type 0} → (ℕ → ℕ → R) → ℕ → List ℕ → List R → List R
-numbered row from [] rows = rows
-numbered row from (id ∷ ids) rows = numbered row (from + 1) ids (row from id ∷ rows)
+abbrev pub links_numbered : {R : Type 0} → (ℕ → ℕ → R) → ℕ → List ℕ → List R → List R
+links_numbered row from [] rows = rows
+links_numbered row from (id ∷ ids) rows = links_numbered row (from + 1) ids (row from id ∷ rows)
 
 -- new links from a check-in list to each of these items
 abbrev pub with_limits : ℕ → ℕ → List ℕ → Tables → Tables
-with_limits list from ids t = record t { list_items = numbered (λ n id. record { rowid = n; list = list; item = id }) from ids t.list_items }
+with_limits list from ids t = record t { list_items = links_numbered (λ n id. record { rowid = n; list = list; item = id }) from ids t.list_items }
 
 -- no link of this check-in list is left
 abbrev pub without_limits : ℕ → Tables → Tables
@@ -58,7 +58,7 @@ without_limits list t = record t { list_items = filter (λ r. not (r.list == lis
 
 -- the links of an owner stay where they are just its members; else they go, and new ones come
 abbrev pub put_links : {R : Type 0} → (owner member : R → ℕ) → (ℕ → ℕ → R) → ℕ → ℕ → List ℕ → List R → List R
-put_links owner member row id from ids rows = if are_just ids (map member (filter (λ r. owner r == id) rows)) then rows else numbered row from ids (filter (λ r. not (owner r == id)) rows)
+put_links owner member row id from ids rows = if are_just ids (map member (filter (λ r. owner r == id) rows)) then rows else links_numbered row from ids (filter (λ r. not (owner r == id)) rows)
 
 -- a quota's links to items are put to be just those of its members
 abbrev pub put_items : ℕ → ℕ → List ℕ → Tables → Tables
@@ -120,9 +120,9 @@ next_by (PutCheckinList w) from = from + length w.limit_products
 next_by _ from = from
 
 -- the changes, one after another, each with the row numbers that those before it left free
-abbrev pub made : List Change → ℕ → Tables → Tables
-made [] from t = t
-made (change ∷ changes) from t = made changes (next_by change from) (made_by change from t)
+abbrev pub changes_made : List Change → ℕ → Tables → Tables
+changes_made [] from t = t
+changes_made (change ∷ changes) from t = changes_made changes (next_by change from) (made_by change from t)
 
 -- the row number that is free after these changes
 abbrev pub next_after : List Change → ℕ → ℕ
@@ -154,8 +154,8 @@ each step (x ∷ xs) t = each step xs (step x t)
 
 -- The counters of these vouchers are set, then those of these quotas, and then how many tickets are out, for the quotas alone where that differs.
 -- All others stay.
-abbrev pub counted : CountRows → Tables → Tables
-counted counts t = each put_exit counts.exits (each put_count counts.quotas (each put_uses counts.vouchers t))
+abbrev pub with_counts : CountRows → Tables → Tables
+with_counts counts t = each put_exit counts.exits (each put_count counts.quotas (each put_uses counts.vouchers t))
 
 -- the answer that a commit keeps, if it keeps one, in a row of this number
 abbrev pub with_listed : ℕ → List Kept → Tables → Tables
@@ -167,5 +167,5 @@ abbrev pub without_past : ℕ → Tables → Tables
 without_past at t = record t { kept = filter (λ r. lasts at r.kept.at) t.kept }
 
 -- what a commit makes of the tables
-abbrev pub done : ShopRow → List Change → CountRows → ℕ → List Kept → ℕ → Tables → Tables
-done shop changes counts from kept at t = without_past at (with_listed (next_after changes from) kept (without_past at (counted counts (made changes from (put_shop shop t)))))
+abbrev pub commit_made : ShopRow → List Change → CountRows → ℕ → List Kept → ℕ → Tables → Tables
+commit_made shop changes counts from kept at t = without_past at (with_listed (next_after changes from) kept (without_past at (with_counts counts (changes_made changes from (put_shop shop t)))))

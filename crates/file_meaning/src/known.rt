@@ -3,7 +3,7 @@
 ghost use Rattle.std.specs.Prelude.{IfSome};
 ghost use Rattle.std.specs.List.{AllByRecursion};
 ghost use Rattle.std.specs.Str.{IsUtf8};
-ghost use Rattle.model_answers.specs.ShopView.{listed};
+ghost use Rattle.model_answers.specs.ShopView.{kept_listed};
 ghost use Rattle.file_rows.specs.Changes.{head_of_voucher, head_of_position};
 ghost use Rattle.file_meaning.specs.Typed.{IsTypedVoucher, IsTypedPosition, IsTypedChange, IsTypedKept};
 
@@ -70,7 +70,7 @@ pub fn changes_known(changes: &[Change])
 
 /// What types promise of an answer that is kept.
 pub fn answer_known(kept: Option<&Kept>)
-    ensures { AllByRecursion IsTypedKept (listed kept.entry) }
+    ensures { AllByRecursion IsTypedKept (kept_listed kept.entry) }
 {
     if let Some(answer) = kept {
         answer.at.known();

@@ -18,7 +18,7 @@ use Rattle.file_reads.proofs.Back.{list_in, list_back, list_item_in, list_item_b
 use Rattle.file_scan.specs.declared.file.FileTables.{FileTables}
 use Rattle.file_scan.specs.Read.{IsFileOf, tables_of}
 use Rattle.file_scan.proofs.FitLemmas.{HoldsOfFirst}
-use Rattle.file_open.specs.Supplied.{lacking_exits, lacking_spents, none_out, none_spent, supplied}
+use Rattle.file_open.specs.Supplied.{lacking_exits, lacking_spents, none_out, none_spent, tables_supplied}
 
 -- each table has the same rows, in some order
 pub record AreAlike (t u : Tables) : Type 0 where
@@ -150,7 +150,7 @@ spents_alike (suc zero) vs ws same = IsPermutation-map none_spent vs ws same
 spents_alike (suc (suc zero)) vs ws same = IsPermutation-map none_spent vs ws same
 spents_alike (suc (suc (suc version))) vs ws same = IsPermutation-refl []
 
-pub supplied_alike : (version : ℕ) (t u : Tables) → AreAlike t u → AreAlike (supplied version t) (supplied version u)
+pub supplied_alike : (version : ℕ) (t u : Tables) → AreAlike t u → AreAlike (tables_supplied version t) (tables_supplied version u)
 supplied_alike version t u h = record {
   shop = h.shop;
   items = h.items;

@@ -5,18 +5,18 @@ use Rattle.model_rows.specs.Lists.{State}
 use Rattle.model_commands.specs.declared.replies.Reply.{Reply}
 use Rattle.model_answers.specs.ShopView.{ShopView, IsSame}
 use Rattle.office_deliveries.specs.declared.arrival.Arrival.{Arrival}
-use Rattle.office_deliveries.specs.Shops.{served}
+use Rattle.office_deliveries.specs.Shops.{arrival_served}
 use Rattle.office_deliveries.specs.Histories.{Running, IsAmong, MayLeave}
 
 module _ (words : Reply → Response) (shop : ShopView) where
   -- no moment that one of these writes leads to is later
   abbrev latest : List Arrival → ℕ
   latest [] = 0
-  latest (a ∷ more) = max (served words a shop).0.state.moment (latest more)
+  latest (a ∷ more) = max (arrival_served words a shop).0.state.moment (latest more)
 
-  within : (a : Arrival) (more : List Arrival) → IsAmong a more → (served words a shop).0.state.moment ≤ latest more
+  within : (a : Arrival) (more : List Arrival) → IsAmong a more → (arrival_served words a shop).0.state.moment ≤ latest more
   within a [] h = absurd h
-  within a (b ∷ more) (inl same) = let is : (served words b shop).0.state.moment ≡ (served words a shop).0.state.moment = ap (λ (x : Arrival). (served words x shop).0.state.moment) same in omega (arith, is)
+  within a (b ∷ more) (inl same) = let is : (arrival_served words b shop).0.state.moment ≡ (arrival_served words a shop).0.state.moment = ap (λ (x : Arrival). (arrival_served words x shop).0.state.moment) same in omega (arith, is)
   within a (b ∷ more) (inr among) = let le = within a more among in omega (arith, le)
 
 -- no moment is later that a crash may leave
@@ -26,7 +26,7 @@ last_left words r = max r.shop.state.moment (latest words r.shop r.undecided)
 left_within : (words : Reply → Response) (r : Running) (x : ShopView) → MayLeave words r x → x.state.moment ≤ last_left words r
 left_within words r x (inl same) = let is : x.state.moment ≡ r.shop.state.moment = ap (λ (v : ShopView). v.state.moment) same in omega (arith, is)
 left_within words r x (inr (a, among, same)) =
-    let is : x.state.moment ≡ (served words a r.shop).0.state.moment = ap (λ (v : ShopView). v.state.moment) same in
+    let is : x.state.moment ≡ (arrival_served words a r.shop).0.state.moment = ap (λ (v : ShopView). v.state.moment) same in
     let le = within words r.shop a r.undecided among in
     omega (arith, is, le)
 

@@ -17,7 +17,7 @@ use Rattle.file_scan.specs.declared.file.FileTables.{FileTables}
 use Rattle.file_scan.specs.Causes.{IsReadable, IsCause}
 use Rattle.file_scan.specs.Lawful.{IsOfMachine}
 use Rattle.file_scan.specs.Read.{tables_of}
-use Rattle.file_rebuild.specs.Arranged.{arranged, rows_in, ArePaired, AreReadInOrder}
+use Rattle.file_rebuild.specs.Arranged.{file_arranged, rows_in, ArePaired, AreReadInOrder}
 use Rattle.file_meaning.specs.Typed.{AreBelowNext}
 use Rattle.file_open.specs.Opened.{KeepsIn, IsLeastIn, IsDamagedBy, IsReason}
 use Rattle.file_open.specs.Why.{IsWhy, IsBroken}
@@ -85,17 +85,17 @@ module _ (shop : ShopRow) (tokens : List Token) (rows : OfficeRows) (paired : Ty
   least_unpaired below whole none before = record { before = λ other lt. kept_before other lt below whole (before other lt); broken = λ k. none k.0 }
 
 -- why the rows of an office are broken is why the file isn't opened
-pub why : (read : FileTables) (file : File) (paired : Bool) (e : OpenError) → file ≡ arranged read.shop read.tables → AreReadInOrder read.shop read.tables → AreBelowNext read.shop read.tables.others.tokens.items → AreRowsOf (arranged read.shop read.tables).state.lists (rows_in read.tables)
+pub why : (read : FileTables) (file : File) (paired : Bool) (e : OpenError) → file ≡ file_arranged read.shop read.tables → AreReadInOrder read.shop read.tables → AreBelowNext read.shop read.tables.others.tokens.items → AreRowsOf (file_arranged read.shop read.tables).state.lists (rows_in read.tables)
     → (IsTrue paired ↔ ArePaired read.tables) → IsBroken paired file e → IsWhy read e
 why read file paired Memory is order below whole pairs h = tt
 why read file paired (Damaged rule) is order below whole pairs (inl h) = (
   order,
-  least_later read.shop read.tables.others.tokens.items (rows_in read.tables) (ArePaired read.tables) (arranged read.shop read.tables) rule below whole (λ last. pairs.0 (h.1 last)) (subst (IsLeastBroken rule) is h.0),
+  least_later read.shop read.tables.others.tokens.items (rows_in read.tables) (ArePaired read.tables) (file_arranged read.shop read.tables) rule below whole (λ last. pairs.0 (h.1 last)) (subst (IsLeastBroken rule) is h.0),
 )
 why read file paired (Damaged rule) is order below whole pairs (inr (seventh, none, before)) = (
   order,
-  subst (IsLeastIn read.shop read.tables.others.tokens.items (rows_in read.tables) (ArePaired read.tables) (arranged read.shop read.tables)) (sym seventh)
-      (least_unpaired read.shop read.tables.others.tokens.items (rows_in read.tables) (ArePaired read.tables) (arranged read.shop read.tables) below whole (λ are. none (pairs.1 are)) (λ other lt. subst (Keeps other) is (before other lt))),
+  subst (IsLeastIn read.shop read.tables.others.tokens.items (rows_in read.tables) (ArePaired read.tables) (file_arranged read.shop read.tables)) (sym seventh)
+      (least_unpaired read.shop read.tables.others.tokens.items (rows_in read.tables) (ArePaired read.tables) (file_arranged read.shop read.tables) below whole (λ are. none (pairs.1 are)) (λ other lt. subst (Keeps other) is (before other lt))),
 )
 why read file paired NotAShop is order below whole pairs h = absurd h
 why read file paired (Version version) is order below whole pairs h = absurd h

@@ -18,7 +18,7 @@ use Rattle.file_scan.specs.Fits.{IsFitFile}
 use Rattle.file_scan.specs.Read.{IsFileOf, tables_of}
 use Rattle.file_scan.proofs.FitLemmas.{fit_read}
 use Rattle.file_tables.specs.Begun.{of_this_version}
-use Rattle.file_open.specs.Supplied.{supplied}
+use Rattle.file_open.specs.Supplied.{tables_supplied}
 use Rattle.file_open.specs.Upgraded.{HoldsShopAt, StandTyped}
 use Rattle.file_open.proofs.Fitting.{fit_typed}
 
@@ -46,11 +46,11 @@ shop_typed file fit numbered head is = record {
 }
 
 -- so do those that were read, once what they lack is supplied
-pub stand_supplied : (own : ℕ) (file full : FileTables) → tables_of full ≡ supplied own (tables_of file) → IsFitFile full → AreBelowNext full.shop full.tables.others.tokens.items → (head : ShopRow) → head ≡ full.shop → (s : State)
-    → Stand head (tables_of full) s (map (λ r. r.kept) (tables_of full).kept) → StandTyped head s (supplied own (tables_of file))
+pub stand_supplied : (own : ℕ) (file full : FileTables) → tables_of full ≡ tables_supplied own (tables_of file) → IsFitFile full → AreBelowNext full.shop full.tables.others.tokens.items → (head : ShopRow) → head ≡ full.shop → (s : State)
+    → Stand head (tables_of full) s (map (λ r. r.kept) (tables_of full).kept) → StandTyped head s (tables_supplied own (tables_of file))
 stand_supplied own file full is fit numbered head same s stand = subst (StandTyped head s) is (stand, shop_typed full fit numbered head same)
 
-pub holds_shop : (own : ℕ) (t : Tables) (head : ShopRow) (s : State) → Stand head (supplied own t) s (map (λ r. r.kept) t.kept) → IsTypedShop (of_this_version head) (supplied own t) → IsSound s → (db : Database) (c : Connected) → IsTrue c.is_open → c.now ≡ db → c.committed ≡ db
+pub holds_shop : (own : ℕ) (t : Tables) (head : ShopRow) (s : State) → Stand head (tables_supplied own t) s (map (λ r. r.kept) t.kept) → IsTypedShop (of_this_version head) (tables_supplied own t) → IsSound s → (db : Database) (c : Connected) → IsTrue c.is_open → c.now ≡ db → c.committed ≡ db
     → db.schema ≡ schema_of_version own → HoldsAt own db.trees t → HoldsShopAt own head t s (map (λ r. r.kept) t.kept) c
 holds_shop own t head s stand typed sound db c opened now committed known held = record {
   is_open = opened;

@@ -19,7 +19,7 @@ use Rattle.file_tables.specs.Begun.{IsUpgraded, of_this_version}
 use Rattle.file_tables.proofs.Upgrades.{upgraded_stands}
 use Rattle.file_open.specs.Migrated.{IsMigrated, IsOfVersion, MayBeMigrated}
 use Rattle.file_open.specs.Opened.{IsOpened, answers_in}
-use Rattle.file_open.specs.Supplied.{brought, lacking_exits, lacking_spents, supplied}
+use Rattle.file_open.specs.Supplied.{brought, lacking_exits, lacking_spents, tables_supplied}
 use Rattle.file_open.specs.Upgraded.{HoldsShopAt}
 use Rattle.file_open.proofs.ItsVersion.{read_version}
 
@@ -36,14 +36,14 @@ moved version head t s ks c d its opened same settled = record {
 }
 
 -- tables that became those of this program's version hold the shop
-brought_holds : (from : ℕ) (head : ShopRow) (t : Tables) (s : State) (ks : List Kept) → Stand head (supplied from t) s ks → IsTypedShop (of_this_version head) (supplied from t) → IsSound s
+brought_holds : (from : ℕ) (head : ShopRow) (t : Tables) (s : State) (ks : List Kept) → Stand head (tables_supplied from t) s ks → IsTypedShop (of_this_version head) (tables_supplied from t) → IsSound s
     → (c : Connected) → IsTrue c.is_open → c.now ≡ c.committed → c.now.schema ≡ schema → Holds c.now.trees (brought from head t) → HoldsShopAt this_version (of_this_version head) (brought from head t) s ks c
 brought_holds from head t s ks stand typed sound c opened settled known held = record {
   is_open = opened;
   settled = settled;
   known = known;
   held = record { shown = held; none = tt };
-  stand = upgraded_stands head (supplied from t) s ks stand;
+  stand = upgraded_stands head (tables_supplied from t) s ks stand;
   typed = record { first = refl; organizer = typed.organizer; event = typed.event; token = typed.token; numbered = typed.numbered; rows = typed.rows };
   sound = sound;
 }

@@ -11,10 +11,10 @@ use Rattle.file_scan.specs.Lawful.{IsOfMachine}
 use Rattle.file_scan.specs.Read.{tables_of}
 use Rattle.file_open.specs.Why.{IsWhy}
 use Rattle.file_open.specs.Refusals.{IsReasonAs, IsWhyAs}
-use Rattle.file_open.specs.Supplied.{supplied}
+use Rattle.file_open.specs.Supplied.{tables_supplied}
 
 -- of rows that were supplied
-pub why_as : (own : ℕ) (file full : FileTables) → tables_of full ≡ supplied own (tables_of file) → (e : OpenError) → IsWhy full e → IsWhyAs own file e
+pub why_as : (own : ℕ) (file full : FileTables) → tables_of full ≡ tables_supplied own (tables_of file) → (e : OpenError) → IsWhy full e → IsWhyAs own file e
 why_as own file full is Memory h = tt
 why_as own file full is NotAShop h = h
 why_as own file full is (Version version) h = h

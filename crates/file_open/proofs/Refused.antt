@@ -20,7 +20,7 @@ use Rattle.file_scan.specs.declared.file.FileTables.{FileTables}
 use Rattle.file_rows.specs.declared.table_rows.TableRows.{TableRows}
 use Rattle.file_scan.specs.Read.{AreTableRows, IsFileOf}
 use Rattle.file_scan.specs.Rests.{IsAt, StaysOpen}
-use Rattle.file_rebuild.specs.Arranged.{arranged, rows_in, told_by, item_link, variation_link, release_link, budget_link, discount_link, list_link, ArePaired, AreReadInOrder}
+use Rattle.file_rebuild.specs.Arranged.{file_arranged, rows_in, told_by, item_link, variation_link, release_link, budget_link, discount_link, list_link, ArePaired, AreReadInOrder}
 use Rattle.file_meaning.specs.Typed.{IsTypedShop}
 use Rattle.file_tables.proofs.ShopLemmas.{declared}
 use Rattle.file_tables.proofs.Told.{shop_again}
@@ -48,8 +48,8 @@ same_rows t rows h = record {
   checkins = h.doors.checkins;
 }
 
-pub stand_read : (t : Tables) (read : FileTables) → IsFileOf t read → AreReadInOrder read.shop read.tables → AreRowsOf (told_by (rows_in read.tables)) (rows_in read.tables) → ArePaired read.tables → IsCounted (arranged read.shop read.tables)
-    → Stand read.shop t (arranged read.shop read.tables).state (map (λ r. r.kept) t.kept)
+pub stand_read : (t : Tables) (read : FileTables) → IsFileOf t read → AreReadInOrder read.shop read.tables → AreRowsOf (told_by (rows_in read.tables)) (rows_in read.tables) → ArePaired read.tables → IsCounted (file_arranged read.shop read.tables)
+    → Stand read.shop t (file_arranged read.shop read.tables).state (map (λ r. r.kept) t.kept)
 stand_read t read of order whole pairs counted =
     let counts = read.tables.others.counts.items in
     let exits = read.tables.others.exits.items in
@@ -69,7 +69,7 @@ stand_read t read of order whole pairs counted =
     }
 
 -- it is told by a state that is the file's
-pub stand_as : (t : Tables) (read : FileTables) (file : File) (s : State) → file ≡ arranged read.shop read.tables → s ≡ file.state → IsFileOf t read → AreReadInOrder read.shop read.tables → AreRowsOf (told_by (rows_in read.tables)) (rows_in read.tables)
+pub stand_as : (t : Tables) (read : FileTables) (file : File) (s : State) → file ≡ file_arranged read.shop read.tables → s ≡ file.state → IsFileOf t read → AreReadInOrder read.shop read.tables → AreRowsOf (told_by (rows_in read.tables)) (rows_in read.tables)
     → ArePaired read.tables → IsCounted file → Stand read.shop t s (map (λ r. r.kept) t.kept)
 stand_as t read file s is state of order whole pairs counted =
     subst (λ z. Stand read.shop t z (map (λ r. r.kept) t.kept)) (sym (state ∙ ap (λ (f : File). f.state) is)) (stand_read t read of order whole pairs (subst IsCounted is counted))

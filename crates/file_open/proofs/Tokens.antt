@@ -10,7 +10,7 @@ use Rattle.file_rows.specs.Tables.{Holds}
 use Rattle.file_schema.specs.Whole.{MayBeWritten}
 use Rattle.file_tables.specs.Begun.{HasToken, token_added}
 use Rattle.file_tables.specs.Shops.{IsOfHouse, Knows, Tells, house_of_rows}
-use Rattle.file_tables.specs.Tokens.{house_with, raised, next_one}
+use Rattle.file_tables.specs.Tokens.{house_with, token_raised, next_one}
 use Rattle.file_tables.proofs.Added.{added_tells}
 use Rattle.file_tables.proofs.Told.{shop_again}
 use Rattle.file_open.specs.Opened.{IsOpened}
@@ -29,9 +29,9 @@ known_as db row head next z c house tells o =
 pub token_out : (head : ShopRow) (next : ℕ) (old : Connected) (db : Trees) (house : House) → db ≡ old.now.trees → Knows head next old.now house → Tells db head house
 token_out head next old db house is knows = subst (λ d. Tells d head house) (sym is) knows.tells
 
-pub token_in : (head : ShopRow) (digest : List ℕ) (next : ℕ) (old : Connected) (db : Trees) (house : House) → MayBeWritten schema (λ (_ : Unit {0}). HasToken (raised head) (next_one head digest)) old db → Knows head next old.now house
-    → Tells db (raised head) (house_with digest head.next_token (head.next_token + 1) house)
+pub token_in : (head : ShopRow) (digest : List ℕ) (next : ℕ) (old : Connected) (db : Trees) (house : House) → MayBeWritten schema (λ (_ : Unit {0}). HasToken (token_raised head) (next_one head digest)) old db → Knows head next old.now house
+    → Tells db (token_raised head) (house_with digest head.next_token (head.next_token + 1) house)
 token_in head digest next old db house may knows =
     let t = knows.tells.tables in
     added_tells head digest next old old db house t knows.tells.shop_is knows.tells.told
-    (subst (λ d. Holds d (token_added (raised head) (next_one head digest) t)) (sym may.is) ((may.turned knows.known).holds t knows.tells.held))
+    (subst (λ d. Holds d (token_added (token_raised head) (next_one head digest) t)) (sym may.is) ((may.turned knows.known).holds t knows.tells.held))

@@ -31,7 +31,7 @@ use Rattle.model_rules.proofs.Sounds.{keeps_all}
 use Rattle.file_scan.specs.declared.file.FileTables.{FileTables}
 use Rattle.file_scan.specs.Read.{IsFileOf}
 use Rattle.file_scan.proofs.SameLemmas.{file_of}
-use Rattle.file_rebuild.specs.Arranged.{arranged, rows_in, told_by, ArePaired, AreReadInOrder}
+use Rattle.file_rebuild.specs.Arranged.{file_arranged, rows_in, told_by, ArePaired, AreReadInOrder}
 use Rattle.file_rebuild.proofs.Offices.{office_told}
 use Rattle.file_tables.proofs.Told.{one_shop}
 use Rattle.file_meaning.specs.Typed.{AreBelowNext}
@@ -67,7 +67,7 @@ one_row rows a b h k = let is : a ∷ [] ≡ b ∷ [] = sym h ∙ k in cc
 module _ (head : ShopRow) (t : Tables) (s : State) (ks : List Kept) (stand : Stand head t s ks) where
   module _ (read : FileTables) (of : IsFileOf t read) (order : AreReadInOrder read.shop read.tables) where
     abbrev file : File
-    file = arranged read.shop read.tables
+    file = file_arranged read.shop read.tables
 
     shop_is : read.shop ≡ head
     shop_is = one_row t.shop read.shop head of.shop stand.shop_is
@@ -141,7 +141,7 @@ module _ (head : ShopRow) (t : Tables) (s : State) (ks : List Kept) (stand : Sta
   unbroken read of order numbered organizer event sound rule least =
       let rows = rows_in read.tables in
       let whole : AreRowsOf (told_by rows) rows = subst (λ l. AreRowsOf l rows) (sym (lists_are read of order)) (rows_are read of order) in
-      least.broken (kept_in read.shop read.tables.others.tokens.items rows (ArePaired read.tables) (arranged read.shop read.tables) rule (below read of order numbered) whole (paired read of order) (keeps read of order organizer event sound rule))
+      least.broken (kept_in read.shop read.tables.others.tokens.items rows (ArePaired read.tables) (file_arranged read.shop read.tables) rule (below read of order numbered) whole (paired read of order) (keeps read of order organizer event sound rule))
 
   -- trees that hold them break none
   pub undamaged : (db : Trees) → Holds db t → AreBelowNext head t.tokens → IsSlug head.organizer → IsSlug head.event → IsSound s → (rule : Rule) → ¬ IsDamagedBy rule db

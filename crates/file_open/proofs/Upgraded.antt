@@ -22,7 +22,7 @@ use Rattle.file_tables.specs.Shops.{Tells, house_of_rows}
 use Rattle.file_tables.proofs.Upgrades.{upgraded_stands}
 use Rattle.file_open.specs.Migrated.{IsOfVersion, MayBeMigrated}
 use Rattle.file_open.specs.Opened.{IsReason}
-use Rattle.file_open.specs.Supplied.{lacking_exits, lacking_spents, supplied}
+use Rattle.file_open.specs.Supplied.{lacking_exits, lacking_spents, tables_supplied}
 use Rattle.file_open.specs.Upgraded.{HoldsShopAt, IsOpenedAsBefore}
 use Rattle.file_open.proofs.Least.{clear}
 use Rattle.file_open.proofs.Tokens.{known_as}
@@ -33,11 +33,11 @@ module _ (from : ℕ) (head : ShopRow) (t : Tables) (s : State) (answers : List 
   row = of_this_version head
 
   abbrev tables : Tables
-  tables = with_head row (supplied from t)
+  tables = with_head row (tables_supplied from t)
 
   pub as_before : (db : Database) → db.schema ≡ schema → Holds db.trees tables → IsOpenedAsBefore head t s answers db opened
   as_before db known held =
-      let stand = upgraded_stands head (supplied from t) s answers its.stand in
+      let stand = upgraded_stands head (tables_supplied from t) s answers its.stand in
       let is = its.typed in
       let fit = sound_fits row tables s answers is.first is.organizer is.event is.token stand its.sound is.rows in
       let tells : Tells db.trees row (house_of_rows head t.tokens) = record { tables = tables; held = held; shop_is = stand.shop_is; told = refl } in

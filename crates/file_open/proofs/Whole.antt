@@ -30,7 +30,7 @@ use Rattle.file_tables.proofs.Upgrades.{upgraded_stands}
 use Rattle.file_open.specs.Migrated.{IsOfVersion}
 use Rattle.file_open.specs.Opened.{IsReason}
 use Rattle.file_open.specs.Refusals.{IsDamagedAs, IsReasonAs, IsUnmigrated}
-use Rattle.file_open.specs.Supplied.{brought, supplied}
+use Rattle.file_open.specs.Supplied.{brought, tables_supplied}
 use Rattle.file_open.specs.Upgraded.{HoldsShopAt}
 use Rattle.file_open.proofs.Alike.{AreAlike, alike_file, first_of, held_alike, supplied_alike}
 use Rattle.file_open.proofs.ItsVersion.{its_row, told_version}
@@ -69,7 +69,7 @@ module _ (own : ℕ) (first : 1 ≤ own) (last : own ≤ this_version) (head : S
   fit : AreFitAt own t
   fit =
       let is = its.typed in
-      let all = sound_fits (of_this_version head) (brought own head t) s ks is.first is.organizer is.event is.token (upgraded_stands head (supplied own t) s ks its.stand) its.sound is.rows in
+      let all = sound_fits (of_this_version head) (brought own head t) s ks is.first is.organizer is.event is.token (upgraded_stands head (tables_supplied own t) s ks its.stand) its.sound is.rows in
       record {
         shop = head;
         alone = its.stand.shop_is;
@@ -121,8 +121,8 @@ module _ (own : ℕ) (first : 1 ≤ own) (last : own ≤ this_version) (head : S
   none_broken : (broken : Rule) → IsDamagedAs own broken c.now.trees → ⊥
   none_broken broken d =
       let full = d.broken.full in
-      let alike : AreAlike (supplied own t) (tables_of full) = subst (AreAlike (supplied own t)) (sym d.broken.is) (supplied_alike own t (tables_of d.read) (same_rows (tables_of d.read) d.held)) in
-      unbroken head (supplied own t) s ks its.stand full (alike_file (supplied own t) full alike) d.broken.order its.typed.numbered its.typed.organizer its.typed.event its.sound broken d.broken.least
+      let alike : AreAlike (tables_supplied own t) (tables_of full) = subst (AreAlike (tables_supplied own t)) (sym d.broken.is) (supplied_alike own t (tables_of d.read) (same_rows (tables_of d.read) d.held)) in
+      unbroken head (tables_supplied own t) s ks its.stand full (alike_file (tables_supplied own t) full alike) d.broken.order its.typed.numbered its.typed.organizer its.typed.event its.sound broken d.broken.least
 
   pub whole_as : (e : OpenError) → IsReasonAs own c.now e → IsOfMachine e
   whole_as Memory h = tt

@@ -33,7 +33,7 @@ use Rattle.file_scan.specs.Rests.{Rests}
 use Rattle.file_scan.specs.Stopped.{IsStopped, WhereClosed}
 use Rattle.file_scan.specs.Numbers.{Rise}
 use Rattle.file_rows.specs.declared.table_rows.TableRows.{TableRows}
-use Rattle.file_rebuild.specs.Arranged.{arranged, rows_in, ArePaired, AreReadInOrder}
+use Rattle.file_rebuild.specs.Arranged.{file_arranged, rows_in, ArePaired, AreReadInOrder}
 use Rattle.office_commands.specs.OfficeView.{OfficeView}
 use Rattle.file_tables.specs.declared.error.HandedBack.{HandedBack}
 use Rattle.file_tables.specs.declared.sql.SqlTables.{SqlTables}
@@ -73,7 +73,7 @@ pub record IsLeastIn (shop : ShopRow) (tokens : List Token) (rows : OfficeRows) 
 
 -- the least rule that what was read breaks
 abbrev pub IsLeastOf : FileTables → Rule → Type 0
-IsLeastOf read rule = IsLeastIn read.shop read.tables.others.tokens.items (rows_in read.tables) (ArePaired read.tables) (arranged read.shop read.tables) rule
+IsLeastOf read rule = IsLeastIn read.shop read.tables.others.tokens.items (rows_in read.tables) (ArePaired read.tables) (file_arranged read.shop read.tables) rule
 
 -- what trees show was read, and of the rows by id it is the least rule that is broken
 pub record IsDamagedBy (rule : Rule) (db : Trees) : Type 0 where

@@ -13,12 +13,12 @@ use Rattle.file_scan.specs.Causes.{IsCause, IsCauseAs, IsReadableAs}
 use Rattle.file_scan.specs.Read.{tables_of}
 use Rattle.file_rebuild.specs.Arranged.{AreReadInOrder}
 use Rattle.file_open.specs.Opened.{IsLeastOf, IsReason}
-use Rattle.file_open.specs.Supplied.{supplied}
+use Rattle.file_open.specs.Supplied.{tables_supplied}
 
 -- of rows that were read of a version, with those that it lacks, it is the least rule that is broken
 pub record IsLeastAs (own : ℕ) (read : FileTables) (rule : Rule) : Type 0 where
   pub full : FileTables
-  pub is : tables_of full ≡ supplied own (tables_of read)
+  pub is : tables_of full ≡ tables_supplied own (tables_of read)
   pub order : AreReadInOrder full.shop full.tables
   pub least : IsLeastOf full rule
 

@@ -8,7 +8,7 @@ use Rattle.model_commands.specs.declared.replies.Reply.{Reply}
 use Rattle.model_answers.specs.declared.kept.Kept.{Kept}
 use Rattle.model_answers.specs.House.{House}
 use Rattle.model_answers.specs.ShopView.{ShopView}
-use Rattle.office_deliveries.specs.Histories.{Running, MayLeave, IsRunning, opened}
+use Rattle.office_deliveries.specs.Histories.{Running, MayLeave, IsRunning, running_from}
 use Rattle.file_tables.specs.declared.sql.SqlTables.{SqlTables}
 use Rattle.file_tables.specs.Shops.{HoldsWhileOpen, IsOfHouse, Leaves}
 use Rattle.file_open.specs.Found.{IsFound}
@@ -34,7 +34,7 @@ Runs g words t office r = IsRunning words (HoldsShop g) (LeavesShop g) t office 
 
 -- a shop is running over them, with this office, as one that a crash may have left of that one
 abbrev pub RunsOn : {S : Type 0} → Ghosts S → (Reply → Response) → Running → SqlTables S → State → Type 0
-RunsOn g words r t office = (x : ShopView) × MayLeave words r x × Runs g words t office (opened words x)
+RunsOn g words r t office = (x : ShopView) × MayLeave words r x × Runs g words t office (running_from words x)
 
 -- ---- connections after a crash
 

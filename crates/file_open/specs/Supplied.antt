@@ -37,8 +37,8 @@ pub record AreLacking (version : ℕ) (t : Tables) (out : List ExitRow) (spent :
   pub spents : spent ≡ lacking_spents version t.vouchers
 
 -- the tables of a version with the rows that this program's has beside them
-abbrev pub supplied : ℕ → Tables → Tables
-supplied version t = with_spents (lacking_spents version t.vouchers) (with_exits (lacking_exits version t.counts) t)
+abbrev pub tables_supplied : ℕ → Tables → Tables
+tables_supplied version t = with_spents (lacking_spents version t.vouchers) (with_exits (lacking_exits version t.counts) t)
 
 -- what a file of a version becomes that is brought to this program's: it gets these rows, and its shop's row gets the version
 abbrev pub Brings : ℕ → ShopRow → Tables → Database → Database → Type 0
@@ -46,4 +46,4 @@ Brings version head t = IsUpgraded (of_this_version head) (lacking_exits version
 
 -- those of this program's version that become of them: the shop's row tells the version, and all other rows are as they were
 abbrev pub brought : ℕ → ShopRow → Tables → Tables
-brought version head t = with_head (of_this_version head) (supplied version t)
+brought version head t = with_head (of_this_version head) (tables_supplied version t)

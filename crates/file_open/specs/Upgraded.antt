@@ -20,7 +20,7 @@ use Rattle.file_scan.specs.Reading.{OfOpen}
 use Rattle.file_tables.specs.Begun.{of_this_version}
 use Rattle.file_tables.specs.Shops.{IsOfHouse, house_of_rows}
 use Rattle.file_open.specs.Opened.{IsFaultless, IsOpened, answers_in, shop_in}
-use Rattle.file_open.specs.Supplied.{supplied, AreLacking}
+use Rattle.file_open.specs.Supplied.{tables_supplied, AreLacking}
 
 -- tables hold an office with the answers that they have, and are what their types promise
 abbrev pub StandTyped : ShopRow → State → Tables → Type 0
@@ -33,8 +33,8 @@ pub record HoldsShopAt (version : ℕ) (head : ShopRow) (t : Tables) (s : State)
   pub settled : c.now ≡ c.committed
   pub known : c.now.schema ≡ schema_of_version version
   pub held : HoldsAt version c.now.trees t
-  pub stand : Stand head (supplied version t) s answers
-  pub typed : IsTypedShop (of_this_version head) (supplied version t)
+  pub stand : Stand head (tables_supplied version t) s answers
+  pub typed : IsTypedShop (of_this_version head) (tables_supplied version t)
   pub sound : IsSound s
 
 -- These are just the rows that these tables of that version lack. Where an open connection showed what is declared as that version is, it holds

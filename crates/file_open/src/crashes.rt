@@ -17,10 +17,10 @@ ghost use Rattle.file_rows.specs.declared.rows.ShopRow.{ShopRow};
 ghost use Rattle.file_rows.specs.Tables.{Tables as Held};
 ghost use Rattle.file_open.specs.Opened.{answers_in, shop_in, IsFaultless};
 ghost use Rattle.office_deliveries.specs.Deliveries.{Delivery, Opening};
-ghost use Rattle.office_deliveries.specs.Shops.{Stands, stood};
-ghost use Rattle.office_deliveries.specs.Histories.{Event, Crashed, Running, Happens, ComesTo, Reopened, opened};
+ghost use Rattle.office_deliveries.specs.Shops.{Stands, shop_after};
+ghost use Rattle.office_deliveries.specs.Histories.{Event, Crashed, Running, Happens, ComesTo, Reopened, running_from};
 ghost use Rattle.file_tables.specs.Made.{IsMade};
-ghost use Rattle.file_tables.specs.Tokens.{house_with, raised, next_one};
+ghost use Rattle.file_tables.specs.Tokens.{house_with, token_raised, next_one};
 ghost use Rattle.file_scan.specs.Rests.{IsOpenAt};
 ghost use Rattle.file_open.specs.Migrated.{IsMigrated, IsOfVersion, LeavesMigrated};
 ghost use Rattle.file_open.specs.Supplied.{Brings};
@@ -38,7 +38,7 @@ pub fn a_made_shop_runs<S: Alter>(blank: &Connection<S>, made: &SqlTables<S>)
         → IsMade first (state S.Store blank.now) made.now.head made.now.next_row
         (state S.Store made.now.connection)
         → Runs S.Store words made.now empty
-        (opened words (stood words (record { state = empty; kept = [] }) [])) }
+        (running_from words (shop_after words (record { state = empty; kept = [] }) [])) }
 {
     let _ = blank;
     let _ = made;
@@ -70,12 +70,12 @@ pub fn a_shop_runs_on_after_a_crash<S: Alter>(
         → Runs S.Store words before.now s r → Finds S.Store before.now.connection fresh.now
         → (z : State) → Opens S.Store fresh.now after.now z → RunsOn S.Store words r after.now z }
     ensures stands { (words : Reply → Response) (p : Opening) (events : List Event) (s : State)
-        (r : Running) → Happens words (opened words (stood words p [])) events r
+        (r : Running) → Happens words (running_from words (shop_after words p [])) events r
         → Runs S.Store words before.now s r → Finds S.Store before.now.connection fresh.now
         → (z : State) → Opens S.Store fresh.now after.now z
-        → (x : ShopView)
-        × Happens words (opened words (stood words p [])) (events ++ Crashed ∷ []) (opened words x)
-        × Runs S.Store words after.now z (opened words x)
+        → (x : ShopView) × Happens words (running_from words (shop_after words p []))
+        (events ++ Crashed ∷ []) (running_from words x)
+        × Runs S.Store words after.now z (running_from words x)
         × ((whole : List Delivery) × ComesTo words p [] [] (events ++ Crashed ∷ []) whole
         × Stands words p whole x) }
 {
@@ -152,7 +152,7 @@ pub fn a_token_is_in_or_out<S: Alter>(
         → IsTrue (state S.Store old.now.connection).is_open → HoldsShop S.Store old.now s ks
         → KnowsWhileOpen old.now.head old.now.next_row (state S.Store old.now.connection) house
         → LeavesWhole S.Store old.now.connection new.now.connection schema
-        (λ (_ : Unit {0}). HasToken (raised old.now.head) (next_one old.now.head digest))
+        (λ (_ : Unit {0}). HasToken (token_raised old.now.head) (next_one old.now.head digest))
         → Finds S.Store new.now.connection fresh.now → (z : State)
         → Opens S.Store fresh.now after.now z
         → KnowsHouse S.Store after.now house

@@ -11,7 +11,7 @@ ghost use Rattle.file_scan.specs.Causes.{IsReadableAs};
 ghost use Rattle.file_scan.specs.Fits.{IsFitFile};
 ghost use Rattle.file_scan.specs.Read.{tables_of};
 ghost use Rattle.file_open.specs.Refusals.{IsReasonAs, IsWhyAs};
-ghost use Rattle.file_open.specs.Supplied.{supplied, AreLacking};
+ghost use Rattle.file_open.specs.Supplied.{tables_supplied, AreLacking};
 ghost use Rattle.file_open.specs.Upgraded.{StandTyped, HoldsLacking};
 ghost use Rattle.file_scan.specs.Reading.{IsUnchangedWhere, TellsCause, FindsFile};
 ghost use Rattle.file_schema.specs.Clean.{LeavesNoMore};
@@ -44,7 +44,7 @@ fn open_supplied<B: Book + Drop>(
         (λ it. AreLacking own (tables_of file) it.lacking.exits.items it.lacking.spents.items) }
     ensures sound { IfOk result (λ it. IsSound (B.state it.reopened.book)) }
     ensures held { IsFitFile file → IfOk result (λ it. StandTyped it.reopened.head
-        (B.state it.reopened.book) (supplied own (tables_of file))) }
+        (B.state it.reopened.book) (tables_supplied own (tables_of file))) }
     ensures refused { IfErr result (IsWhyAs own file) }
 {
     match supply(alloc, own, file) {

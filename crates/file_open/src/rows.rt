@@ -14,7 +14,7 @@ ghost use Rattle.file_check.specs.Last.{KeepsFirst};
 ghost use Rattle.file_scan.specs.declared.file.FileTables.{FileTables};
 ghost use Rattle.file_scan.specs.Read.{AreTableRows};
 ghost use Rattle.file_rebuild.specs.declared.error.ArrangeError.TheVariants.{Order};
-ghost use Rattle.file_rebuild.specs.Arranged.{arranged, rows_in, told_by, ArePaired, AreReadInOrder};
+ghost use Rattle.file_rebuild.specs.Arranged.{file_arranged, rows_in, told_by, ArePaired, AreReadInOrder};
 ghost use Rattle.file_meaning.specs.Typed.{AreBelowNext};
 ghost use Rattle.file_open.specs.Opened.{IsLeastIn, RowsRise};
 ghost use Rattle.file_open.specs.Why.{IsWhy};
@@ -97,7 +97,7 @@ pub(crate) fn first_kept(
     shop: &ShopRow,
     tables: TableRows,
 ) -> Result<(FileRows, bool), OpenError>
-    ensures told { IfOk result (λ it. file_of it.0 ≡ arranged shop.now tables) }
+    ensures told { IfOk result (λ it. file_of it.0 ≡ file_arranged shop.now tables) }
     ensures paired { IfOk result (λ it. IsTrue it.1 ↔ ArePaired tables) }
     ensures order { OnOk result (AreReadInOrder shop.now tables) }
     ensures numbered { OnOk result (AreBelowNext shop.now tables.others.tokens.items) }

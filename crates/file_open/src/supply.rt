@@ -3,7 +3,7 @@
 ghost use Rattle.std.specs.Prelude.{◌≡◌, ◌++◌, map, IfOk};
 ghost use Rattle.file_scan.specs.Fits.{IsFitFile};
 ghost use Rattle.file_scan.specs.Read.{tables_of};
-ghost use Rattle.file_open.specs.Supplied.{none_out, none_spent, lacking_exits, lacking_spents, supplied, AreLacking};
+ghost use Rattle.file_open.specs.Supplied.{none_out, none_spent, lacking_exits, lacking_spents, tables_supplied, AreLacking};
 
 use file_rows::{CountRow, ExitRow, SpentRow, VoucherRow};
 use file_scan::FileTables;
@@ -100,7 +100,7 @@ pub(crate) fn supply(
 ) -> Result<(FileTables, Lacking), AllocError>
     ensures shop { IfOk result (λ it. it.0.shop ≡ file.shop) }
     ensures limits { IsFitFile file → IfOk result (λ it. IsFitFile it.0) }
-    ensures tables { IfOk result (λ it. tables_of it.0 ≡ supplied own (tables_of file)) }
+    ensures tables { IfOk result (λ it. tables_of it.0 ≡ tables_supplied own (tables_of file)) }
     ensures lacking { IfOk result
         (λ it. AreLacking own (tables_of file) it.1.exits.items it.1.spents.items) }
 {

@@ -25,7 +25,7 @@ use Rattle.file_schema.specs.declared.error.RowError.{RowError}
 use Rattle.file_schema.specs.declared.error.RowError.TheVariants.{Memory, Foreign, Damaged, Store}
 use Rattle.file_schema.specs.Failures.{failure_of, meaning_of}
 use Rattle.file_schema.specs.Tables.{schema}
-use Rattle.file_schema.specs.Parts.{shown}
+use Rattle.file_schema.specs.Parts.{row_shown}
 use Rattle.file_rows.specs.Unread.{IsUnread}
 use Rattle.file_reads.specs.Damage.{IsDamaged, IsFor, HasMeaning, HasNoMeaning, IsForReading}
 use Rattle.file_reads.specs.Select.{IsSelectIn}
@@ -134,13 +134,13 @@ still_there show test (x ∷ xs) r h =
 -- rows that are shown are some of those that stand, so one of these is damaged
 pub refuses : {T : Type 0} (as_row : T → Row) (fits : T → Type 0) {s : Schema} (sql : List ℕ) (tree : ℕ) (test : List Term) → IsSelectIn s sql tree test → (params : Row) (old new : State) → old.now.schema ≡ s → (e : RowError)
     → IsFor (HasNoMeaning old.now.schema sql) ((rows : List Row) × Shown sql params old new rows × IsDamaged as_row fits rows) e
-    → IsFor ⊥ (IsDamaged as_row fits (map (shown schema tree) (old.now.trees tree))) e
+    → IsFor ⊥ (IsDamaged as_row fits (map (row_shown schema tree) (old.now.trees tree))) e
 refuses as_row fits sql tree test is params old new known e h =
     for (HasNoMeaning old.now.schema sql) ⊥ _ _ (lacks_none sql tree test is old.now.schema known)
     (λ (found : (rows : List Row) × Shown sql params old new rows × IsDamaged as_row fits rows).
     let alike = IsPermutation-sym _ _ (selects sql tree test is params old new known found.0 found.1) in
-    let there = Contains-permutation found.0 (map (shown schema tree) (filter (passes test params) (old.now.trees tree))) found.2.0 alike found.2.1 in
-    (found.2.0, still_there (shown schema tree) (passes test params) (old.now.trees tree) found.2.0 there, found.2.2)) e h
+    let there = Contains-permutation found.0 (map (row_shown schema tree) (filter (passes test params) (old.now.trees tree))) found.2.0 alike found.2.1 in
+    (found.2.0, still_there (row_shown schema tree) (passes test params) (old.now.trees tree) found.2.0 there, found.2.2)) e h
 
 -- ---- rows of values within their limits
 

@@ -18,7 +18,7 @@ use Rattle.sqlite.specs.State.{State, Shown, ShowsRows, KeepsCommit, IsNotRun, F
 use Rattle.sqlite.proofs.Callers.{IsPlain, command_of, reads_as}
 use Rattle.file_schema.proofs.WholeLemmas.{not_run}
 use Rattle.file_schema.specs.Tables.{schema}
-use Rattle.file_schema.specs.Parts.{shown}
+use Rattle.file_schema.specs.Parts.{row_shown}
 use Rattle.file_schema.specs.Shapes.{command_in, over, plainly}
 use Rattle.file_schema.proofs.Answered.{passes, answered}
 use Rattle.file_schema.proofs.Generic.{asked}
@@ -63,26 +63,26 @@ map_same f g same (r ∷ rows) = rw (same r, map_same f g same rows)
 
 -- what it reads of a database is what the table shows of the rows that pass
 shows_those : {s : Schema} (sql : List ℕ) (tree : ℕ) (test : List Term) (is : IsSelectIn s sql tree test) (db : Database) (params : Row) (rows : List Row)
-    → Reads (Select (plainly (over tree test is.project is.order)) is.names) db params rows → IsPermutation (map (shown schema tree) (filter (passes test params) (db.trees tree))) rows
+    → Reads (Select (plainly (over tree test is.project is.order)) is.names) db params rows → IsPermutation (map (row_shown schema tree) (filter (passes test params) (db.trees tree))) rows
 shows_those sql tree test is db params rows read =
     let left = filter (passes test params) (db.trees tree) in
-    subst (λ l. IsPermutation l rows) (map_same (λ (r : Row). eval_all is.project (params ∷ r ∷ [])) (shown schema tree) (is.shows params) left) (answered db tree test is.project is.order params rows read)
+    subst (λ l. IsPermutation l rows) (map_same (λ (r : Row). eval_all is.project (params ∷ r ∷ [])) (row_shown schema tree) (is.shows params) left) (answered db tree test is.project is.order params rows read)
 
 -- where there is no test, it is all that the table shows
-pub shows_all : {s : Schema} (sql : List ℕ) (tree : ℕ) (is : IsSelectIn s sql tree []) (db : Database) (rows : List Row) → Reads (Select (plainly (over tree [] is.project is.order)) is.names) db [] rows → IsPermutation rows (map (shown schema tree) (db.trees tree))
+pub shows_all : {s : Schema} (sql : List ℕ) (tree : ℕ) (is : IsSelectIn s sql tree []) (db : Database) (rows : List Row) → Reads (Select (plainly (over tree [] is.project is.order)) is.names) db [] rows → IsPermutation rows (map (row_shown schema tree) (db.trees tree))
 shows_all sql tree is db rows read =
-    IsPermutation-sym _ _ (subst (λ l. IsPermutation (map (shown schema tree) l) rows) (keep_all (db.trees tree)) (shows_those sql tree [] is db [] rows read))
+    IsPermutation-sym _ _ (subst (λ l. IsPermutation (map (row_shown schema tree) l) rows) (keep_all (db.trees tree)) (shows_those sql tree [] is db [] rows read))
 
 pub command_is : {s : Schema} (sql : List ℕ) (tree : ℕ) (test : List Term) (is : IsSelectIn s sql tree test) → command_of (understood s sql) ≡ Select (plainly (over tree test is.project is.order)) is.names
 command_is {s} sql tree test is = asked (understood s sql) _ is.asks.0
 
 pub selects : {s : Schema} (sql : List ℕ) (tree : ℕ) (test : List Term) → IsSelectIn s sql tree test → (params : Row) (old new : State) → old.now.schema ≡ s → (rows : List Row) → Shown sql params old new rows
-    → IsPermutation (map (shown schema tree) (filter (passes test params) (old.now.trees tree))) rows
+    → IsPermutation (map (row_shown schema tree) (filter (passes test params) (old.now.trees tree))) rows
 selects {s} sql tree test is params old new known rows h = shows_those sql tree test is old.now params rows (reads_as sql params old new s known _ (command_is sql tree test is) is.asks.1 is.unlisted rows h)
 
-pub loads : {s : Schema} (sql : List ℕ) (tree : ℕ) → IsSelectIn s sql tree [] → (old new : State) → old.now.schema ≡ s → (rows : List Row) → Shown sql [] old new rows → IsPermutation rows (map (shown schema tree) (old.now.trees tree))
+pub loads : {s : Schema} (sql : List ℕ) (tree : ℕ) → IsSelectIn s sql tree [] → (old new : State) → old.now.schema ≡ s → (rows : List Row) → Shown sql [] old new rows → IsPermutation rows (map (row_shown schema tree) (old.now.trees tree))
 loads sql tree is old new known rows h =
-    IsPermutation-sym _ _ (subst (λ l. IsPermutation (map (shown schema tree) l) rows) (keep_all (old.now.trees tree)) (selects sql tree [] is [] old new known rows h))
+    IsPermutation-sym _ _ (subst (λ l. IsPermutation (map (row_shown schema tree) l) rows) (keep_all (old.now.trees tree)) (selects sql tree [] is [] old new known rows h))
 
 -- a SELECT changes nothing
 pub unchanged : (sql : List ℕ) (params : Row) (old new : State) → IsPlain (understood schema sql) → old.now.schema ≡ schema → (rows : List Row) → Shown sql params old new rows → new.now ≡ old.now

@@ -19,7 +19,7 @@ use Rattle.sqlite.specs.Collation.TheVariants.{Binary}
 use Rattle.sqlite.specs.Listing.{understood, reads_listing}
 use Rattle.sqlite.specs.State.{State, Shown}
 use Rattle.file_schema.specs.Tables.{schema}
-use Rattle.file_schema.specs.Parts.{shown}
+use Rattle.file_schema.specs.Parts.{row_shown}
 use Rattle.file_schema.specs.Shapes.{AsksFor, over, plainly, equals, by_owner}
 use Rattle.file_schema.proofs.Answered.{passes}
 use Rattle.file_schema.proofs.Keyed.{equals_rowid, truth_back}
@@ -88,7 +88,7 @@ kept_asks = refl
 pub kept_is : IsSelect kept_text 24 key_test
 kept_is = record { project = kept_columns; order = []; names = _; asks = kept_reads.0; unlisted = kept_reads.1; shows = λ params r. refl; reads = query_reads kept_text kept_asks }
 
-passes_key : (token : ℕ) (key : List ℕ) (r : Row) (w : KeptRow) → shown schema 24 r ≡ kept_row w → passes key_test (number token ∷ Blob key ∷ []) r ≡ is_under token key w
+passes_key : (token : ℕ) (key : List ℕ) (r : Row) (w : KeptRow) → row_shown schema 24 r ≡ kept_row w → passes key_test (number token ∷ Blob key ∷ []) r ≡ is_under token key w
 passes_key token key r w e =
     let t : column r 1 ≡ number w.kept.token = ap (λ (x : Row). column x 1) e in
     let k : column r 2 ≡ Blob w.kept.key = ap (λ (x : Row). column x 2) e in
@@ -101,7 +101,7 @@ pub finds_kept : (token : ℕ) (key : List ℕ) (old new : State) → old.now.sc
     → (t : Tables) → Holds old.now.trees t → IsPermutation all (filter (is_under token key) t.kept)
 finds_kept token key old new known all h t held =
     let params = number token ∷ Blob key ∷ [] in
-    looked_up kept_row kept_in kept_back (shown schema 24) (passes key_test params) (is_under token key) (passes_key token key) (old.now.trees 24) t.kept all held.1.1.1.1.1.1.1.1.1.1.1.1.1.1.1.1.0
+    looked_up kept_row kept_in kept_back (row_shown schema 24) (passes key_test params) (is_under token key) (passes_key token key) (old.now.trees 24) t.kept all held.1.1.1.1.1.1.1.1.1.1.1.1.1.1.1.1.0
     (selects kept_text 24 key_test kept_is params old new known (map kept_row all) h)
 
 -- ---- tokens by digest
@@ -123,7 +123,7 @@ token_asks = refl
 pub token_is : IsSelect token_text 22 digest_test
 token_is = record { project = col 1 0 ∷ col 1 2 ∷ []; order = []; names = _; asks = token_reads.0; unlisted = token_reads.1; shows = λ params r. refl; reads = query_reads token_text token_asks }
 
-passes_digest : (digest : List ℕ) (r : Row) (w : Token) → shown schema 22 r ≡ token_row w → passes digest_test (Blob digest ∷ []) r ≡ has_digest digest w
+passes_digest : (digest : List ℕ) (r : Row) (w : Token) → row_shown schema 22 r ≡ token_row w → passes digest_test (Blob digest ∷ []) r ≡ has_digest digest w
 passes_digest digest r w e =
     let k : column r 2 ≡ Blob w.digest = ap (λ (x : Row). column x 1) e in
     stays_true _ ∙ ap (λ v. is_true (binary (Compare Eq Binary) v (Blob digest))) k ∙ same_bytes w.digest digest
@@ -132,7 +132,7 @@ pub finds_token : (digest : List ℕ) (old new : State) → old.now.schema ≡ s
     → (t : Tables) → Holds old.now.trees t → IsPermutation all (filter (has_digest digest) t.tokens)
 finds_token digest old new known all h t held =
     let params = Blob digest ∷ [] in
-    looked_up token_row token_in token_back (shown schema 22) (passes digest_test params) (has_digest digest) (passes_digest digest) (old.now.trees 22) t.tokens all held.1.1.1.1.1.1.1.1.1.1.1.1.1.1.1.0
+    looked_up token_row token_in token_back (row_shown schema 22) (passes digest_test params) (has_digest digest) (passes_digest digest) (old.now.trees 22) t.tokens all held.1.1.1.1.1.1.1.1.1.1.1.1.1.1.1.0
     (selects token_text 22 digest_test token_is params old new known (map token_row all) h)
 
 -- ---- members by their owner
@@ -141,5 +141,5 @@ module _ (sql : List ℕ) (tree : ℕ) {A : Type 0} (row : A → Row) (owner : A
   pub finds_owned : (id : ℕ) (old new : State) → old.now.schema ≡ schema → (all : List A) → Shown sql (number id ∷ []) old new (map row all) → (t : Tables) → Holds old.now.trees t → IsPermutation all (filter (λ w. owner w == id) (rows t))
   finds_owned id old new known all h t held =
       let params = number id ∷ [] in
-      looked_up row is.back is.told (shown schema tree) (passes by_owner params) (λ w. owner w == id) (λ r w e. passes_owner id (owner w) r (sym (is.owned.begins r) ∙ ap (λ (x : Row). column x 1) e ∙ is.owned.owned w))
+      looked_up row is.back is.told (row_shown schema tree) (passes by_owner params) (λ w. owner w == id) (λ r w e. passes_owner id (owner w) r (sym (is.owned.begins r) ∙ ap (λ (x : Row). column x 1) e ∙ is.owned.owned w))
       (old.now.trees tree) (rows t) all (is.owned.holds old.now.trees t held) (selects sql tree by_owner is.select params old new known (map row all) h)

@@ -8,7 +8,7 @@ use Rattle.sqlite.specs.Listing.{understood}
 use Rattle.file_schema.specs.declared.error.RowError.{RowError}
 use Rattle.file_schema.specs.declared.error.RowError.TheVariants.{Memory, Foreign, Damaged, Store}
 use Rattle.file_schema.specs.Tables.{schema}
-use Rattle.file_schema.specs.Parts.{shown}
+use Rattle.file_schema.specs.Parts.{row_shown}
 use Rattle.file_rows.specs.Unread.{IsOfNoFit}
 
 -- one of the rows is that of no value within its limits
@@ -17,7 +17,7 @@ IsDamaged {T} as_row fits rows = (r : Row) × Contains rows r × IsOfNoFit fits 
 
 -- one of the rows that a shop's table of this tree shows is that of no value within its limits
 abbrev pub ShowsDamage : {T : Type 0} → (T → Row) → (T → Type 0) → ℕ → Trees → Type 0
-ShowsDamage as_row fits tree db = IsDamaged as_row fits (map (shown schema tree) (db tree))
+ShowsDamage as_row fits tree db = IsDamaged as_row fits (map (row_shown schema tree) (db tree))
 
 -- 60 is told because of the first, 62 because of the second; that memory is refused or the store fails has no cause in the file
 abbrev pub IsFor : (foreign damage : Type 0) → RowError → Type 0

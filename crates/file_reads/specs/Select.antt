@@ -9,7 +9,7 @@ use Rattle.sqlite_schema.specs.declared.schema.Schema.{Schema}
 use Rattle.sqlite.specs.Given.{IsPlain}
 use Rattle.sqlite.specs.Listing.{understood, reads_listing}
 use Rattle.file_schema.specs.Tables.{schema}
-use Rattle.file_schema.specs.Parts.{shown}
+use Rattle.file_schema.specs.Parts.{row_shown}
 use Rattle.file_schema.specs.Shapes.{command_in, over, plainly, by_owner}
 use Rattle.file_rows.specs.Owned.{AreOwned}
 use Rattle.file_rows.specs.Tables.{Tables}
@@ -28,7 +28,7 @@ pub record IsSelectIn (s : Schema) (sql : List ℕ) (tree : ℕ) (test : List Te
   pub names : List (List ℕ)
   pub asks : AsksForIn s (Select (plainly (over tree test project order)) names) sql
   pub unlisted : reads_listing s sql ≡ false
-  pub shows : (params r : Row) → eval_all project (params ∷ r ∷ []) ≡ shown schema tree r
+  pub shows : (params r : Row) → eval_all project (params ∷ r ∷ []) ≡ row_shown schema tree r
   pub reads : (any : Schema) → IsForReading any sql
 
 -- over a shop's tables

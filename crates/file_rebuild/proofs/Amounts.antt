@@ -20,13 +20,13 @@ use Rattle.file_meaning.specs.Rows.{budgets_of, discounts_of, budget_in, discoun
 use Rattle.file_meaning.proofs.Counting.{few}
 use Rattle.file_meaning.proofs.Told.{order_of_parts}
 use Rattle.file_rebuild.specs.Arranged.{budget_link, discount_link, voucher_with, position_with}
-use Rattle.file_rebuild.specs.Members.{told, members_of, links_to, links_of, values_of}
+use Rattle.file_rebuild.specs.Members.{members_told, members_of, links_to, links_of, values_of}
 use Rattle.file_rebuild.proofs.Parts.{all_told}
 
 -- ---- one owner
 
 -- where owners rise, what is told of one is a value or nothing
-told_alone : (id n : ℕ) (ls : List Link) → InOrderFrom (λ (l : Link). l.owner) n ls → option_to_list (budget_in (told id ls)) ≡ members_of id ls
+told_alone : (id n : ℕ) (ls : List Link) → InOrderFrom (λ (l : Link). l.owner) n ls → option_to_list (budget_in (members_told id ls)) ≡ members_of id ls
 told_alone id n ls h =
     elim (few (λ (l : Link). l.owner) n id ls h) [
       | inl none ↦ subst (λ t. option_to_list (budget_in t) ≡ rising t) (sym (ap (map (λ (l : Link). l.member)) none)) refl
@@ -42,11 +42,11 @@ one_or_none None = refl
 one_or_none (Some n) = refl
 
 -- as many have a value as are told one
-counted : (ids : List ℕ) (ls : List Link) → AreInOrder (λ (l : Link). l.owner) ls → count_by is_some (map (λ id. budget_in (told id ls)) ids) ≡ length (flat_map (λ m. m) (map (λ id. members_of id ls) ids))
+counted : (ids : List ℕ) (ls : List Link) → AreInOrder (λ (l : Link). l.owner) ls → count_by is_some (map (λ id. budget_in (members_told id ls)) ids) ≡ length (flat_map (λ m. m) (map (λ id. members_of id ls) ids))
 counted [] ls h = refl
 counted (id ∷ ids) ls h =
-    sum_by-cons (λ (o : Option ℕ). cond (is_some o) 1 0) (budget_in (told id ls)) (map (λ id. budget_in (told id ls)) ids)
-    ∙ ap₂ ◌+◌ (one_or_none (budget_in (told id ls)) ∙ ap length (told_alone id 0 ls h)) (counted ids ls h)
+    sum_by-cons (λ (o : Option ℕ). cond (is_some o) 1 0) (budget_in (members_told id ls)) (map (λ id. budget_in (members_told id ls)) ids)
+    ∙ ap₂ ◌+◌ (one_or_none (budget_in (members_told id ls)) ∙ ap length (told_alone id 0 ls h)) (counted ids ls h)
     ∙ sym (length-append (members_of id ls) (flat_map (λ m. m) (map (λ i. members_of i ls) ids)))
 
 module _ {V : Type 0} (key value : V → ℕ) where
@@ -54,7 +54,7 @@ module _ {V : Type 0} (key value : V → ℕ) where
   link v = record { owner = key v; member = value v }
 
   -- the value of the row of an id is what is told of it first
-  pub value_told : (id : ℕ) (rows : List V) → option_map value (row_at key id rows) ≡ budget_in (told id (map link rows))
+  pub value_told : (id : ℕ) (rows : List V) → option_map value (row_at key id rows) ≡ budget_in (members_told id (map link rows))
   value_told id [] = refl
   value_told id (r ∷ rows) =
       elim (key r == id) as (λ b. option_map value (cond b (Some r) (row_at key id rows)) ≡ budget_in (map (λ (l : Link). l.member) (cond b (link r ∷ filter (λ (l : Link). l.owner == id) (map link rows)) (filter (λ (l : Link). l.owner == id) (map link rows))))) [
@@ -62,7 +62,7 @@ module _ {V : Type 0} (key value : V → ℕ) where
         | false ↦ value_told id rows
       ]
 
-  each_told : (ids : List ℕ) (rows : List V) → map (λ id. option_map value (row_at key id rows)) ids ≡ map (λ id. budget_in (told id (map link rows))) ids
+  each_told : (ids : List ℕ) (rows : List V) → map (λ id. option_map value (row_at key id rows)) ids ≡ map (λ id. budget_in (members_told id (map link rows))) ids
   each_told [] rows = refl
   each_told (id ∷ ids) rows = ap₂ ◌∷◌ (value_told id rows) (each_told ids rows)
 
@@ -91,7 +91,7 @@ vouchers_joined budgets (h ∷ heads) = ap₂ ◌∷◌ (ap (λ o. voucher_of o 
 
 pub voucher_links : (ls : List Link) (heads : List VoucherRow) → all_links (λ (v : Voucher). v.id) budgets_of (map (λ (r : VoucherRow). voucher_with ls r.voucher) heads) ≡ values_of (map (λ (r : VoucherRow). r.voucher.id) heads) ls
 voucher_links ls [] = refl
-voucher_links ls (h ∷ heads) = ap (λ more. links_to (option_to_list (budget_in (told h.voucher.id ls))) h.voucher.id ++ more) (voucher_links ls heads)
+voucher_links ls (h ∷ heads) = ap (λ more. links_to (option_to_list (budget_in (members_told h.voucher.id ls))) h.voucher.id ++ more) (voucher_links ls heads)
 
 -- ---- order positions
 
@@ -104,7 +104,7 @@ pub positions_joined : (discounts : List DiscountRow) (heads : List PositionRow)
     ≡ map (position_with (map discount_link discounts)) heads
 positions_joined discounts [] = refl
 positions_joined discounts (h ∷ heads) =
-    ap₂ ◌∷◌ (ap (λ n. position_of n h) (ap (λ o. unwrap_or o 0) (value_told (λ (d : DiscountRow). d.position_id) (λ (d : DiscountRow). d.discount) h.id discounts) ∙ or_none (told h.id (map discount_link discounts)))) (positions_joined discounts heads)
+    ap₂ ◌∷◌ (ap (λ n. position_of n h) (ap (λ o. unwrap_or o 0) (value_told (λ (d : DiscountRow). d.position_id) (λ (d : DiscountRow). d.discount) h.id discounts) ∙ or_none (members_told h.id (map discount_link discounts)))) (positions_joined discounts heads)
 
 -- a discount of 0 is none
 abbrev Takes : ℕ → Type 0
@@ -113,7 +113,7 @@ Takes n = not (n == 0) ≡ true
 abbrev TakesSome : Link → Type 0
 TakesSome l = Takes l.member
 
-told_takes : (id : ℕ) (ls : List Link) → AllByRecursion TakesSome ls → AllByRecursion Takes (told id ls)
+told_takes : (id : ℕ) (ls : List Link) → AllByRecursion TakesSome ls → AllByRecursion Takes (members_told id ls)
 told_takes id [] h = tt
 told_takes id (l ∷ ls) h =
     elim (l.owner == id) as (λ b. AllByRecursion Takes (map (λ (k : Link). k.member) (cond b (l ∷ filter (λ (k : Link). k.owner == id) ls) (filter (λ (k : Link). k.owner == id) ls)))) [
@@ -130,7 +130,7 @@ same_discount (m ∷ ms) h = elim (m == 0) as (λ b. not b ≡ true → cond b [
 
 position_links : (ls : List Link) (heads : List PositionRow) → AllByRecursion TakesSome ls → all_links (λ (p : OrderPos). p.id) discounts_of (map (position_with ls) heads) ≡ values_of (map (λ (r : PositionRow). r.id) heads) ls
 position_links ls [] h = refl
-position_links ls (r ∷ heads) h = ap₂ (λ ms more. links_to ms r.id ++ more) (same_discount (told r.id ls) (told_takes r.id ls h)) (position_links ls heads h)
+position_links ls (r ∷ heads) h = ap₂ (λ ms more. links_to ms r.id ++ more) (same_discount (members_told r.id ls) (told_takes r.id ls h)) (position_links ls heads h)
 
 -- the links of positions take something
 own_takes : (id n : ℕ) (b : Bool) → (n == 0) ≡ b → AllByRecursion TakesSome (links_to (cond b [] (n ∷ [])) id)

@@ -28,7 +28,7 @@ use Rattle.file_meaning.specs.Rows.{releases_of, budgets_of, discounts_of, usage
 use Rattle.file_meaning.specs.Stands.{AreRowsOf}
 use Rattle.file_meaning.proofs.Told.{map_back}
 use Rattle.file_rebuild.specs.Arranged.{item_link, variation_link, release_link, list_link, budget_link, discount_link, count_in, is_any, quota_of, list_of, voucher_with, position_with, rows_in, told_by}
-use Rattle.file_rebuild.specs.Members.{told, members_of, links_of}
+use Rattle.file_rebuild.specs.Members.{members_told, members_of, links_of}
 use Rattle.file_rebuild.proofs.Offices.{quota_links, variation_links, release_links, list_links}
 use Rattle.file_rebuild.proofs.Parts.{all_told}
 
@@ -39,8 +39,8 @@ each_sorted items [] = refl
 each_sorted items (v ∷ vs) = ap (λ l. rising (items v) ∷ l) (each_sorted items vs)
 
 -- what was told of each id, sorted
-pub sorted_members : {V : Type 0} (items : V → List ℕ) (vs : List V) (each : List (List ℕ)) (ids : List ℕ) (ls : List Link) → each ≡ map (λ v. rising (items v)) vs → map items vs ≡ map (λ id. told id ls) ids → each ≡ map (λ id. members_of id ls) ids
-sorted_members items vs each ids ls e same = e ∙ each_sorted items vs ∙ ap (map rising) same ∙ sym (each_sorted (λ id. told id ls) ids)
+pub sorted_members : {V : Type 0} (items : V → List ℕ) (vs : List V) (each : List (List ℕ)) (ids : List ℕ) (ls : List Link) → each ≡ map (λ v. rising (items v)) vs → map items vs ≡ map (λ id. members_told id ls) ids → each ≡ map (λ id. members_of id ls) ids
+sorted_members items vs each ids ls e same = e ∙ each_sorted items vs ∙ ap (map rising) same ∙ sym (each_sorted (λ id. members_told id ls) ids)
 
 -- they are whole where there are as many as links
 pub members_whole : {L : Type 0} (link : L → Link) (links : List L) (ids : List ℕ) (each given : List (List ℕ)) (W : Type 0) → AreInOrder (λ n. n) ids → each ≡ map (λ id. members_of id (map link links)) ids → given ≡ each

@@ -20,7 +20,7 @@ use Rattle.file_meaning.specs.Stands.{AreRowsOf, AreOrdered, MembersRise, ItemsR
 use Rattle.file_meaning.proofs.Order.{same_order}
 use Rattle.file_meaning.proofs.Told.{all_map, order_of_parts, voucher_back, position_back}
 use Rattle.file_rebuild.specs.Arranged.{release_link, is_any, quota_of, list_of, told_by}
-use Rattle.file_rebuild.specs.Members.{told, members_of, links_to, links_of}
+use Rattle.file_rebuild.specs.Members.{members_told, members_of, links_to, links_of}
 use Rattle.file_rebuild.proofs.Parts.{IsFew, few_back, members_back}
 
 -- ---- what is arranged
@@ -37,13 +37,13 @@ variation_links i v r (h ∷ heads) = ap (λ l. links_to (members_of h.id v) h.i
 once_more : (id : ℕ) → with_row (λ n. n) id (id ∷ []) ≡ id ∷ []
 once_more id = let test : (id == id) ≡ true = grind (arith, nat_tests) in let no : nat_lt id id ≡ false = grind (arith, nat_tests) in rw no (rw test refl)
 
-stays_told : (id : ℕ) (rows : List ReleaseRow) → with_ids (told id (map release_link rows)) (id ∷ []) ≡ id ∷ []
+stays_told : (id : ℕ) (rows : List ReleaseRow) → with_ids (members_told id (map release_link rows)) (id ∷ []) ≡ id ∷ []
 stays_told id [] = refl
 stays_told id (w ∷ rows) =
     elim (w.quota == id) as (λ b. (w.quota == id) ≡ b → with_ids (map (λ (l : Link). l.member) (cond b (release_link w ∷ filter (λ (l : Link). l.owner == id) (map release_link rows)) (filter (λ (l : Link). l.owner == id) (map release_link rows)))) (id ∷ []) ≡ id ∷ []) [
       | true ↦ λ e.
           let is : w.quota ≡ id = grind (arith, nat_tests) in
-          ap (λ n. with_ids (told id (map release_link rows)) (with_row (λ n. n) n (id ∷ []))) is ∙ ap (with_ids (told id (map release_link rows))) (once_more id) ∙ stays_told id rows
+          ap (λ n. with_ids (members_told id (map release_link rows)) (with_row (λ n. n) n (id ∷ []))) is ∙ ap (with_ids (members_told id (map release_link rows))) (once_more id) ∙ stays_told id rows
       | false ↦ λ e. stays_told id rows
     ] refl
 
@@ -55,7 +55,7 @@ itself_told id (w ∷ rows) =
     ≡ with_ids (map (λ (l : Link). l.member) (cond b (release_link w ∷ filter (λ (l : Link). l.owner == id) (map release_link rows)) (filter (λ (l : Link). l.owner == id) (map release_link rows)))) []) [
       | true ↦ λ e.
           let is : w.quota ≡ id = grind (arith, nat_tests) in
-          let one : with_ids (told id (map release_link rows)) (w.quota ∷ []) ≡ id ∷ [] = ap (λ n. with_ids (told id (map release_link rows)) (n ∷ [])) is ∙ stays_told id rows in
+          let one : with_ids (members_told id (map release_link rows)) (w.quota ∷ []) ≡ id ∷ [] = ap (λ n. with_ids (members_told id (map release_link rows)) (n ∷ [])) is ∙ stays_told id rows in
           ap (λ l. cond (is_any l) (id ∷ []) []) one ∙ sym one
       | false ↦ λ e. itself_told id rows
     ] refl
@@ -70,11 +70,11 @@ list_links i (h ∷ heads) = ap (λ l. links_to (members_of h.id i) h.id ++ l) (
 
 pub members_rise : (i v r : List Link) (heads : List QuotaRow) → AllByRecursion MembersRise (map (quota_of i v r) heads)
 members_rise i v r [] = tt
-members_rise i v r (h ∷ heads) = (record { items = rising_in_order (told h.id i); variations = rising_in_order (told h.id v) }, members_rise i v r heads)
+members_rise i v r (h ∷ heads) = (record { items = rising_in_order (members_told h.id i); variations = rising_in_order (members_told h.id v) }, members_rise i v r heads)
 
 pub items_rise : (i : List Link) (heads : List ListRow) → AllByRecursion ItemsRise (map (list_of i) heads)
 items_rise i [] = tt
-items_rise i (h ∷ heads) = (rising_in_order (told h.id i), items_rise i heads)
+items_rise i (h ∷ heads) = (rising_in_order (members_told h.id i), items_rise i heads)
 
 -- ---- what a box office has
 
@@ -146,18 +146,18 @@ lists_told lists rows o p h =
 module _ {T U : Type 0} (key : T → ℕ) (part : T → U) (of : U → ℕ) (is : (r : T) → of (part r) ≡ key r) (members : T → List ℕ) (alone : (r : T) → IsFew (members r)) (whole : List ℕ → U → T) (also : (ms : List ℕ) (u : U) → key (whole ms u) ≡ of u)
     (back : (r : T) → whole (members r) (part r) ≡ r) (ls : List Link) where
   abbrev with_told : U → T
-  with_told u = whole (told (of u) ls) u
+  with_told u = whole (members_told (of u) ls) u
 
-  wholes_back : (ys : List T) → map (λ r. told (key r) ls) ys ≡ map members ys → map with_told (map part ys) ≡ ys
+  wholes_back : (ys : List T) → map (λ r. members_told (key r) ls) ys ≡ map members ys → map with_told (map part ys) ≡ ys
   wholes_back [] e = refl
   wholes_back (r ∷ ys) e =
-      let first : told (key r) ls ≡ members r = cc in
-      let more : map (λ s. told (key s) ls) ys ≡ map members ys = cc in
-      ap₂ ◌∷◌ (ap (λ n. whole (told n ls) (part r)) (is r) ∙ ap (λ ms. whole ms (part r)) first ∙ back r) (wholes_back ys more)
+      let first : members_told (key r) ls ≡ members r = cc in
+      let more : map (λ s. members_told (key s) ls) ys ≡ map members ys = cc in
+      ap₂ ◌∷◌ (ap (λ n. whole (members_told n ls) (part r)) (is r) ∙ ap (λ ms. whole ms (part r)) first ∙ back r) (wholes_back ys more)
 
   wholes_told : (xs : List U) (ys : List T) → AreInOrder key (map with_told xs) → AreInOrder key ys → IsPermutation xs (map part ys) → IsPermutation ls (all_links key members ys) → map with_told xs ≡ ys
   wholes_told xs ys h k same links =
-      let parts = same_order of xs (map part ys) (order_in_parts of with_told key (λ u. also (told (of u) ls) u) 0 xs h) (order_of_parts key part of is 0 ys k) same in
+      let parts = same_order of xs (map part ys) (order_in_parts of with_told key (λ u. also (members_told (of u) ls) u) 0 xs h) (order_of_parts key part of is 0 ys k) same in
       ap (map with_told) parts ∙ wholes_back ys (few_back key members ys ls k alone links)
 
 budget_alone : (o : Option ℕ) → IsFew (option_to_list o)

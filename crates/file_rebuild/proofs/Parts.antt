@@ -13,7 +13,7 @@ use Rattle.base_sorted.proofs.RisingLemmas.{is_rising}
 use Rattle.file_meaning.specs.Links.{Link, links, all_links}
 use Rattle.file_meaning.proofs.Links.{filter_append}
 use Rattle.file_meaning.proofs.Order.{put_in, put_stays}
-use Rattle.file_rebuild.specs.Members.{told, members_of, links_to, links_of}
+use Rattle.file_rebuild.specs.Members.{members_told, members_of, links_to, links_of}
 
 module _ {X : Type 0} where
   exchange : (a m b e : List X) → IsPermutation ((a ++ m) ++ (b ++ e)) ((a ++ b) ++ (m ++ e))
@@ -56,7 +56,7 @@ rising_part (id ∷ given) ids h =
     (rest.0 ++ same, IsPermutation-trans (id ∷ (given ++ ids)) (given ++ id ∷ ids) (with_ids given put ++ (rest.0 ++ same)) one (IsPermutation-trans (given ++ id ∷ ids) (given ++ (put ++ same)) (with_ids given put ++ (rest.0 ++ same)) two four))
 
 -- the links of an owner are those to what is told of it
-own_links : (id : ℕ) (ls : List Link) → filter (λ l. l.owner == id) ls ≡ links_to (told id ls) id
+own_links : (id : ℕ) (ls : List Link) → filter (λ l. l.owner == id) ls ≡ links_to (members_told id ls) id
 own_links id [] = refl
 own_links id (l ∷ ls) =
     elim (l.owner == id) as (λ b. (l.owner == id) ≡ b → cond b (l ∷ filter (λ k. k.owner == id) ls) (filter (λ k. k.owner == id) ls) ≡ links_to (map (λ (k : Link). k.member) (cond b (l ∷ filter (λ k. k.owner == id) ls) (filter (λ k. k.owner == id) ls))) id) [
@@ -68,11 +68,11 @@ own_links id (l ∷ ls) =
     ] refl
 
 -- without one owner's links the same is told of another
-others_told : (id other : ℕ) (ls : List Link) → (other == id) ≡ false → told other (filter (λ l. not (l.owner == id)) ls) ≡ told other ls
+others_told : (id other : ℕ) (ls : List Link) → (other == id) ≡ false → members_told other (filter (λ l. not (l.owner == id)) ls) ≡ members_told other ls
 others_told id other [] e = refl
 others_told id other (l ∷ ls) e =
     let ih = others_told id other ls e in
-    elim (l.owner == id) as (λ b. (l.owner == id) ≡ b → told other (cond (not b) (l ∷ filter (λ k. not (k.owner == id)) ls) (filter (λ k. not (k.owner == id)) ls)) ≡ told other (l ∷ ls)) [
+    elim (l.owner == id) as (λ b. (l.owner == id) ≡ b → members_told other (cond (not b) (l ∷ filter (λ k. not (k.owner == id)) ls) (filter (λ k. not (k.owner == id)) ls)) ≡ members_told other (l ∷ ls)) [
       | true ↦ λ f. let no : (l.owner == other) ≡ false = grind (arith, nat_tests) in rw no ih
       | false ↦ λ f. elim (l.owner == other) as (λ b. map (λ (k : Link). k.member) (cond b (l ∷ filter (λ k. k.owner == other) (filter (λ k. not (k.owner == id)) ls)) (filter (λ k. k.owner == other) (filter (λ k. not (k.owner == id)) ls)))
           ≡ map (λ (k : Link). k.member) (cond b (l ∷ filter (λ k. k.owner == other) ls) (filter (λ k. k.owner == other) ls))) [
@@ -92,11 +92,11 @@ links_part n [] ls h = (ls, IsPermutation-refl ls)
 links_part n (id ∷ ids) ls h =
     let others = filter (λ (l : Link). not (l.owner == id)) ls in
     let rest = links_part (id + 1) ids others h.1 in
-    let mine = rising_part (told id ls) [] tt in
-    let all : IsPermutation (told id ls) (members_of id ls ++ mine.0) = subst (λ l. IsPermutation l (members_of id ls ++ mine.0)) (append-nil (told id ls)) mine.1 in
+    let mine = rising_part (members_told id ls) [] tt in
+    let all : IsPermutation (members_told id ls) (members_of id ls ++ mine.0) = subst (λ l. IsPermutation l (members_of id ls ++ mine.0)) (append-nil (members_told id ls)) mine.1 in
     let own : IsPermutation (filter (λ (l : Link). l.owner == id) ls) (links_to (members_of id ls) id ++ links_to mine.0 id) =
     subst (λ l. IsPermutation l (links_to (members_of id ls) id ++ links_to mine.0 id)) (sym (own_links id ls))
-    (subst (IsPermutation (links_to (told id ls) id)) (map-append (λ m. record { owner = id; member = m }) (members_of id ls) mine.0) (IsPermutation-map (λ m. record { owner = id; member = m }) (told id ls) (members_of id ls ++ mine.0) all)) in
+    (subst (IsPermutation (links_to (members_told id ls) id)) (map-append (λ m. record { owner = id; member = m }) (members_of id ls) mine.0) (IsPermutation-map (λ m. record { owner = id; member = m }) (members_told id ls) (members_of id ls ++ mine.0) all)) in
     let them : IsPermutation others (links_of ids ls ++ rest.0) = subst (λ l. IsPermutation others (l ++ rest.0)) (others_links id (id + 1) ids ls (omega arith) h.1) rest.1 in
     let both : IsPermutation (filter (λ (l : Link). l.owner == id) ls ++ others) ((links_to (members_of id ls) id ++ links_to mine.0 id) ++ (links_of ids ls ++ rest.0)) =
     IsPermutation-append (filter (λ (l : Link). l.owner == id) ls) (links_to (members_of id ls) id ++ links_to mine.0 id) others (links_of ids ls ++ rest.0) own them in (
@@ -135,14 +135,14 @@ strictly n (x ∷ y ∷ ys) h (suc k) lt =
 rising_same : (xs ys : List ℕ) → IsPermutation xs ys → AreInOrder (λ n. n) ys → rising xs ≡ ys
 rising_same xs ys same h = sym (is_rising xs ys (strictly 0 ys h) (λ k. Contains-permutation xs ys k same) (λ k. Contains-permutation ys xs k (IsPermutation-sym xs ys same)))
 
-told_append : (id : ℕ) (ks ls : List Link) → told id (ks ++ ls) ≡ told id ks ++ told id ls
+told_append : (id : ℕ) (ks ls : List Link) → members_told id (ks ++ ls) ≡ members_told id ks ++ members_told id ls
 told_append id ks ls = ap (map (λ (k : Link). k.member)) (filter_append (λ (k : Link). k.owner == id) ks ls) ∙ map-append (λ (k : Link). k.member) (filter (λ (k : Link). k.owner == id) ks) (filter (λ (k : Link). k.owner == id) ls)
 
-told_own : (id : ℕ) (ms : List ℕ) → told id (links_to ms id) ≡ ms
+told_own : (id : ℕ) (ms : List ℕ) → members_told id (links_to ms id) ≡ ms
 told_own id [] = refl
 told_own id (m ∷ ms) = let test : (id == id) ≡ true = grind (arith, nat_tests) in rw test (ap (λ t. m ∷ t) (told_own id ms))
 
-told_none : (id other : ℕ) (ms : List ℕ) → (other == id) ≡ false → told id (links_to ms other) ≡ []
+told_none : (id other : ℕ) (ms : List ℕ) → (other == id) ≡ false → members_told id (links_to ms other) ≡ []
 told_none id other [] e = refl
 told_none id other (m ∷ ms) e = rw e (told_none id other ms e)
 
@@ -166,41 +166,41 @@ same_few ms xs (inr one) same =
     single (x ∷ y ∷ xs) e h = absurd (omega (arith, e))
 
 module _ {T : Type 0} (key : T → ℕ) (members : T → List ℕ) where
-  told_above : (id n : ℕ) (rows : List T) → id < n → InOrderFrom key n rows → told id (all_links key members rows) ≡ []
+  told_above : (id n : ℕ) (rows : List T) → id < n → InOrderFrom key n rows → members_told id (all_links key members rows) ≡ []
   told_above id n [] lt h = refl
   told_above id n (r ∷ rows) lt h =
       told_append id (links key members r) (all_links key members rows) ∙ ap₂ ◌++◌ (told_none id (key r) (members r) (grind (arith, nat_tests, h.0))) (told_above id (key r + 1) rows (omega (arith, lt, h.0)) h.1)
 
-  told_below : (row : T) (n : ℕ) (rows : List T) (ls : List Link) → key row < n → InOrderFrom key n rows → map (λ r. told (key r) (links key members row ++ ls)) rows ≡ map (λ r. told (key r) ls) rows
+  told_below : (row : T) (n : ℕ) (rows : List T) (ls : List Link) → key row < n → InOrderFrom key n rows → map (λ r. members_told (key r) (links key members row ++ ls)) rows ≡ map (λ r. members_told (key r) ls) rows
   told_below row n [] ls lt h = refl
   told_below row n (r ∷ rows) ls lt h =
-      ap₂ ◌∷◌ (told_append (key r) (links key members row) ls ∙ ap (λ t. t ++ told (key r) ls) (told_none (key r) (key row) (members row) (grind (arith, nat_tests, h.0)))) (told_below row (key r + 1) rows ls (omega (arith, lt, h.0)) h.1)
+      ap₂ ◌∷◌ (told_append (key r) (links key members row) ls ∙ ap (λ t. t ++ members_told (key r) ls) (told_none (key r) (key row) (members row) (grind (arith, nat_tests, h.0)))) (told_below row (key r + 1) rows ls (omega (arith, lt, h.0)) h.1)
 
-  told_each : (n : ℕ) (rows : List T) → InOrderFrom key n rows → map (λ r. told (key r) (all_links key members rows)) rows ≡ map members rows
+  told_each : (n : ℕ) (rows : List T) → InOrderFrom key n rows → map (λ r. members_told (key r) (all_links key members rows)) rows ≡ map members rows
   told_each n [] h = refl
   told_each n (r ∷ rows) h =
-      let first : told (key r) (all_links key members (r ∷ rows)) ≡ members r =
+      let first : members_told (key r) (all_links key members (r ∷ rows)) ≡ members r =
       told_append (key r) (links key members r) (all_links key members rows) ∙ ap₂ ◌++◌ (told_own (key r) (members r)) (told_above (key r) (key r + 1) rows (omega arith) h.1) ∙ append-nil (members r) in
       ap₂ ◌∷◌ first (told_below r (key r + 1) rows (all_links key members rows) (omega arith) h.1 ∙ told_each (key r + 1) rows h.1)
 
-  each_told : (rows : List T) (all ls : List Link) → map (λ r. told (key r) all) rows ≡ map members rows → AllByRecursion (λ r. AreInOrder (λ n. n) (members r)) rows → IsPermutation ls all → map (λ r. members_of (key r) ls) rows ≡ map members rows
+  each_told : (rows : List T) (all ls : List Link) → map (λ r. members_told (key r) all) rows ≡ map members rows → AllByRecursion (λ r. AreInOrder (λ n. n) (members r)) rows → IsPermutation ls all → map (λ r. members_of (key r) ls) rows ≡ map members rows
   each_told [] all ls e rise same = refl
   each_told (r ∷ rows) all ls e rise same =
-      let first : told (key r) all ≡ members r = cc in
-      let more : map (λ s. told (key s) all) rows ≡ map members rows = cc in
-      let mine : IsPermutation (told (key r) ls) (told (key r) all) = IsPermutation-map (λ (l : Link). l.member) _ _ (IsPermutation-filter (λ (l : Link). l.owner == key r) ls all same) in
-      ap₂ ◌∷◌ (rising_same (told (key r) ls) (members r) (subst (IsPermutation (told (key r) ls)) first mine) rise.0) (each_told rows all ls more rise.1 same)
+      let first : members_told (key r) all ≡ members r = cc in
+      let more : map (λ s. members_told (key s) all) rows ≡ map members rows = cc in
+      let mine : IsPermutation (members_told (key r) ls) (members_told (key r) all) = IsPermutation-map (λ (l : Link). l.member) _ _ (IsPermutation-filter (λ (l : Link). l.owner == key r) ls all same) in
+      ap₂ ◌∷◌ (rising_same (members_told (key r) ls) (members r) (subst (IsPermutation (members_told (key r) ls)) first mine) rise.0) (each_told rows all ls more rise.1 same)
 
-  each_few : (rows : List T) (all ls : List Link) → map (λ r. told (key r) all) rows ≡ map members rows → ((r : T) → IsFew (members r)) → IsPermutation ls all → map (λ r. told (key r) ls) rows ≡ map members rows
+  each_few : (rows : List T) (all ls : List Link) → map (λ r. members_told (key r) all) rows ≡ map members rows → ((r : T) → IsFew (members r)) → IsPermutation ls all → map (λ r. members_told (key r) ls) rows ≡ map members rows
   each_few [] all ls e alone same = refl
   each_few (r ∷ rows) all ls e alone same =
-      let first : told (key r) all ≡ members r = cc in
-      let more : map (λ s. told (key s) all) rows ≡ map members rows = cc in
-      let mine : IsPermutation (told (key r) ls) (told (key r) all) = IsPermutation-map (λ (l : Link). l.member) _ _ (IsPermutation-filter (λ (l : Link). l.owner == key r) ls all same) in
-      ap₂ ◌∷◌ (same_few (members r) (told (key r) ls) (alone r) (subst (IsPermutation (told (key r) ls)) first mine)) (each_few rows all ls more alone same)
+      let first : members_told (key r) all ≡ members r = cc in
+      let more : map (λ s. members_told (key s) all) rows ≡ map members rows = cc in
+      let mine : IsPermutation (members_told (key r) ls) (members_told (key r) all) = IsPermutation-map (λ (l : Link). l.member) _ _ (IsPermutation-filter (λ (l : Link). l.owner == key r) ls all same) in
+      ap₂ ◌∷◌ (same_few (members r) (members_told (key r) ls) (alone r) (subst (IsPermutation (members_told (key r) ls)) first mine)) (each_few rows all ls more alone same)
 
   -- links of rows that have a member each, or none, tell it and nothing else
-  pub few_back : (rows : List T) (ls : List Link) → AreInOrder key rows → ((r : T) → IsFew (members r)) → IsPermutation ls (all_links key members rows) → map (λ r. told (key r) ls) rows ≡ map members rows
+  pub few_back : (rows : List T) (ls : List Link) → AreInOrder key rows → ((r : T) → IsFew (members r)) → IsPermutation ls (all_links key members rows) → map (λ r. members_told (key r) ls) rows ≡ map members rows
   few_back rows ls h alone same = each_few rows (all_links key members rows) ls (told_each 0 rows h) alone same
 
   -- links of rows in order tell their members

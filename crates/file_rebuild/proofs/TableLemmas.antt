@@ -14,7 +14,7 @@ use Rattle.model_rows.specs.declared.rows.Checkin.{Checkin}
 use Rattle.model_rows.specs.declared.changes.Change.TheVariants.{PutItem, PutVariation, PutQuota, PutVoucher, PutCart, PutOrder, PutPosition, PutWaiting, PutCheckinList, PutCheckin}
 use Rattle.model_rows.specs.declared.changes.Change.{Change}
 use Rattle.model_rows.specs.declared.rows.NextIds.{NextIds}
-use Rattle.model_rows.specs.Change.{after_all, after_change, applied}
+use Rattle.model_rows.specs.Change.{after_all, after_change, changes_applied}
 use Rattle.model_rows.specs.Lists.{Lists, State}
 use Rattle.file_meaning.specs.Counts.{with_all}
 use Rattle.file_rebuild.proofs.PutLemmas.{all_put}
@@ -90,6 +90,6 @@ pub checkins_put : (rows : List Checkin) (lists : Lists) → lists.checkins ≡ 
 checkins_put rows lists none h = checkins_each rows lists ∙ ap (λ l. record lists { checkins = l }) (ap (with_all (λ r. r.id) rows) none ∙ all_put (λ r. r.id) rows h)
 
 -- the state after changes whose effect on the lists is known
-pub after : (changes : List Change) (next : NextIds) (at : ℕ) (s t : State) (old new : Lists) → t ≡ applied (record { list = changes; next = next }) at s → s.lists ≡ old → after_all changes old ≡ new → t ≡ record { lists = new; next = next; moment = at }
+pub after : (changes : List Change) (next : NextIds) (at : ℕ) (s t : State) (old new : Lists) → t ≡ changes_applied (record { list = changes; next = next }) at s → s.lists ≡ old → after_all changes old ≡ new → t ≡ record { lists = new; next = next; moment = at }
 after changes next at s t old new is was makes =
     is ∙ ap (λ l. record { lists = after_all changes l; next = next; moment = at }) was ∙ ap (λ l. record { lists = l; next = next; moment = at }) makes

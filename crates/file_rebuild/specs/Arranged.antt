@@ -32,7 +32,7 @@ use Rattle.model_rules.specs.Rules.{File}
 use Rattle.file_meaning.specs.Links.{Link, all_links}
 use Rattle.file_meaning.specs.Rows.{OfficeRows, budget_in, budgets_of, discount_in, discounts_of, releases_of, voucher_of, position_of, usage_in}
 use Rattle.file_meaning.specs.Stands.{AreOrdered}
-use Rattle.file_rebuild.specs.Members.{told, members_of}
+use Rattle.file_rebuild.specs.Members.{members_told, members_of}
 
 -- ---- rows as they were read
 
@@ -143,11 +143,11 @@ list_of items row = list_having row (members_of row.id items)
 
 -- a voucher with the budget that is told of it first, if one is
 abbrev pub voucher_with : List Link → VoucherHead → Voucher
-voucher_with budgets row = voucher_of (budget_in (told row.id budgets)) row
+voucher_with budgets row = voucher_of (budget_in (members_told row.id budgets)) row
 
 -- an order position with the discount that is told of it first; without one it is 0
 abbrev pub position_with : List Link → PositionRow → OrderPos
-position_with discounts row = position_of (discount_in (told row.id discounts)) row
+position_with discounts row = position_of (discount_in (members_told row.id discounts)) row
 
 -- the quotas that the tables of quotas tell
 abbrev pub quotas_arranged : CatalogueRows → List Quota
@@ -176,8 +176,8 @@ told_by rows = record {
 
 -- with the shop's row, and the counters that stand beside the rows: each count with the exits in the same place, and each voucher's uses with what is
 -- spent in the same place
-abbrev pub arranged : ShopRow → TableRows → File
-arranged shop tables = record {
+abbrev pub file_arranged : ShopRow → TableRows → File
+file_arranged shop tables = record {
   organizer = shop.organizer;
   event = shop.event;
   state = record { lists = told_by (rows_in tables); next = shop.next; moment = shop.moment };
@@ -257,6 +257,6 @@ pub record IsInOrder (file : File) : Type 0 where
 
 -- so do they as they were read, where some counts may lack their exits, and some vouchers what is spent of them
 pub record AreReadInOrder (shop : ShopRow) (tables : TableRows) : Type 0 where
-  pub file : IsInOrder (arranged shop tables)
+  pub file : IsInOrder (file_arranged shop tables)
   pub sales : SalesRise tables.sales
   pub counts : CountsRise tables.others

@@ -7,16 +7,16 @@ use Rattle.file_meaning.specs.Links.{Link}
 use Rattle.file_meaning.specs.Rows.{budget_in}
 
 -- the members that are told of an owner, in the order of their links
-abbrev pub told : ℕ → List Link → List ℕ
-told owner rows = map (λ l. l.member) (filter (λ l. l.owner == owner) rows)
+abbrev pub members_told : ℕ → List Link → List ℕ
+members_told owner rows = map (λ l. l.member) (filter (λ l. l.owner == owner) rows)
 
 -- in the place of each id stands what links tell of it
 abbrev pub AreTold : List ℕ → List Link → List (Vec ℕ) → Type 0
-AreTold ids rows lists = map (λ v. v.items) lists ≡ map (λ id. told id rows) ids
+AreTold ids rows lists = map (λ v. v.items) lists ≡ map (λ id. members_told id rows) ids
 
 -- in rising order, each once
 abbrev pub members_of : ℕ → List Link → List ℕ
-members_of owner rows = rising (told owner rows)
+members_of owner rows = rising (members_told owner rows)
 
 -- the links of one owner to these members
 abbrev pub links_to : List ℕ → ℕ → List Link
@@ -29,7 +29,7 @@ links_of owners rows = flat_map (λ owner. links_to (members_of owner rows) owne
 -- The links of these owners to the value that is told of each first, where one is told. They are just the given ones where each of these is
 -- of an owner, and no owner has two.
 abbrev pub values_of : List ℕ → List Link → List Link
-values_of owners rows = flat_map (λ owner. links_to (option_to_list (budget_in (told owner rows))) owner) owners
+values_of owners rows = flat_map (λ owner. links_to (option_to_list (budget_in (members_told owner rows))) owner) owners
 
 -- of each of these ids the value in its row, where it has a row; rows are told by their key
 abbrev pub each_value : {V : Type 0} → (V → ℕ) → (V → ℕ) → List ℕ → List V → List (Option ℕ)

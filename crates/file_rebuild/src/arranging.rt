@@ -3,7 +3,7 @@
 ghost use Rattle.std.specs.Prelude.{◌≡◌, ◌↔◌, IfOk, IfErr, OnOk, IsTrue};
 ghost use Rattle.model_rules.specs.Told.{file_of, lists_of};
 ghost use Rattle.file_meaning.specs.Stands.{AreRowsOf};
-ghost use Rattle.file_rebuild.specs.Arranged.{arranged, rows_in, told_by, ArePaired, AreReadInOrder, OthersRise};
+ghost use Rattle.file_rebuild.specs.Arranged.{file_arranged, rows_in, told_by, ArePaired, AreReadInOrder, OthersRise};
 ghost use Rattle.file_rebuild.specs.declared.error.ArrangeError.TheVariants.{Order};
 
 use crate::counts::counts_in;
@@ -44,7 +44,7 @@ fn all_rise(rows: &FileRows) -> bool
 /// just the quotas that have counts, and it is told of just the vouchers what is spent; else rule 7 is broken.
 /// Refusals: 6, and 63 where the store didn't show rows in order of id.
 pub fn arrange(alloc: Global, shop: &ShopRow, tables: TableRows) -> Result<Arranged, ArrangeError>
-    ensures told { IfOk result (λ a. file_of a.rows ≡ arranged shop.now tables) }
+    ensures told { IfOk result (λ a. file_of a.rows ≡ file_arranged shop.now tables) }
     ensures order { OnOk result (AreReadInOrder shop.now tables) }
     ensures refused { IfErr result (λ e. e ≡ Order → ¬ AreReadInOrder shop.now tables) }
     ensures whole { IfOk result (λ a. IsTrue a.whole

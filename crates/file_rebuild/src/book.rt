@@ -1,7 +1,7 @@
 //! The book of a file: its rows are put, table by table.
 
 ghost use Rattle.std.specs.Prelude.{◌≡◌, ◌≤◌, OnOk};
-ghost use Rattle.model_rows.specs.Change.{applied};
+ghost use Rattle.model_rows.specs.Change.{changes_applied};
 
 use base_values::Moment;
 use book_usage::Book;
@@ -17,7 +17,7 @@ pub(crate) fn put<B: Book>(
 ) -> Result<(), AllocError>
     requires { (B.state book.old).moment ≤ at }
     ensures done { OnOk result (B.state book.new
-        ≡ applied (record { list = list.items; next = next }) at (B.state book.old)) }
+        ≡ changes_applied (record { list = list.items; next = next }) at (B.state book.old)) }
     ensures moment { (B.state book.new).moment ≤ at }
 {
     let changes = Changes::new(list, next);

@@ -2,7 +2,7 @@
 
 ghost use Rattle.std.specs.Prelude.{◌≡◌, ◌≤◌, map, IfOk, OnOk};
 ghost use Rattle.model_rows.specs.declared.changes.Change.{Change};
-ghost use Rattle.model_rows.specs.Change.{applied};
+ghost use Rattle.model_rows.specs.Change.{changes_applied};
 
 use crate::book::put;
 use base_values::Moment;
@@ -36,8 +36,8 @@ pub(crate) fn put_rows<B: Book, T: Put>(
     at: Moment,
 ) -> Result<(), AllocError>
     requires { (B.state book.old).moment ≤ at }
-    ensures done { OnOk result (B.state book.new
-        ≡ applied (record { list = map T.change rows.items; next = next }) at (B.state book.old)) }
+    ensures done { OnOk result (B.state book.new ≡ changes_applied
+        (record { list = map T.change rows.items; next = next }) at (B.state book.old)) }
     ensures moment { (B.state book.new).moment ≤ at }
 {
     let changes = changes(alloc, rows)?;

@@ -10,7 +10,7 @@ use Rattle.sqlite.specs.Listing.{understood, reads_listing, IsSourceOf}
 use Rattle.sqlite.specs.State.{State, Shown, ShowsRows}
 use Rattle.sqlite.proofs.Callers.{IsPlain, command_of}
 use Rattle.file_schema.specs.Tables.{schema}
-use Rattle.file_schema.specs.Parts.{shown}
+use Rattle.file_schema.specs.Parts.{row_shown}
 use Rattle.file_schema.specs.declared.error.RowError.{RowError}
 use Rattle.file_schema.specs.declared.error.RowError.TheVariants.{Memory, Foreign, Damaged, Store}
 use Rattle.file_rows.specs.declared.rows.ShopRow.{ShopRow}
@@ -41,7 +41,7 @@ shown_by sql old new rows reads h =
     (h.0, h.1.is, it.0, it.1, h.1.now, it.2)
 
 -- of our tables these are the rows of the tree
-pub shows_rows : {s : Schema} (sql : List ℕ) (tree : ℕ) → IsSelectIn s sql tree [] → (db : Database) → db.schema ≡ s → (rows : List Row) → ShowsBy sql db rows → IsPermutation rows (map (shown schema tree) (db.trees tree))
+pub shows_rows : {s : Schema} (sql : List ℕ) (tree : ℕ) → IsSelectIn s sql tree [] → (db : Database) → db.schema ≡ s → (rows : List Row) → ShowsBy sql db rows → IsPermutation rows (map (row_shown schema tree) (db.trees tree))
 shows_rows sql tree is db has rows h =
     let known = sym h.1 ∙ ap (λ k. understood k sql) has in
     let bare = subst IsPlain (sym known) is.asks.1 in

@@ -11,7 +11,7 @@ use Rattle.sqlite.specs.Listing.{understood}
 use Rattle.sqlite.specs.State.{State, IsUnchanged, Begins}
 use Rattle.sqlite.proofs.Callers.{EndsIn, begins_shown}
 use Rattle.file_schema.specs.Tables.{schema}
-use Rattle.file_schema.specs.Parts.{shown}
+use Rattle.file_schema.specs.Parts.{row_shown}
 use Rattle.file_schema.specs.Shapes.{command_in, over, plainly}
 use Rattle.file_reads.specs.Damage.{HasMeaning, IsDamaged}
 use Rattle.file_reads.specs.Select.{IsSelectIn}
@@ -30,7 +30,7 @@ unfolding Begins
 begins_meaning sql s rows h = (h.0, h.1.is)
 
 pub damaged_in : {T : Type 0} (as_row : T → Row) (fits : T → Type 0) {of : Schema} (sql : List ℕ) (tree : ℕ) (is : IsSelectIn of sql tree []) (s : State) → s.now.schema ≡ of → IsTrue s.is_open → (rows : List Row) (row : Row)
-    → Begins sql [] s (rows ++ row ∷ []) → ((w : T) → fits w → row ≢ as_row w) → IsDamaged as_row fits (map (shown schema tree) (s.now.trees tree))
+    → Begins sql [] s (rows ++ row ∷ []) → ((w : T) → fits w → row ≢ as_row w) → IsDamaged as_row fits (map (row_shown schema tree) (s.now.trees tree))
 damaged_in as_row fits sql tree is s known o rows row h bad =
     let command : (c : Compiled) → understood s.now.schema sql ≡ Ok c → c.command ≡ Select (plainly (over tree [] is.project is.order)) is.names = λ c at.
     (let both : Some c.command ≡ Some (Select (plainly (over tree [] is.project is.order)) is.names) = sym (ap command_in at) ∙ ap (λ k. command_in (understood k sql)) known ∙ is.asks.0 in cc) in

@@ -25,7 +25,7 @@ use Rattle.file_schema.specs.declared.error.RowError.{RowError}
 use Rattle.file_schema.specs.declared.error.RowError.TheVariants as rows
 use Rattle.file_schema.specs.Failures.{failure_of, meaning_of}
 use Rattle.file_schema.specs.Tables.{schema}
-use Rattle.file_schema.specs.Parts.{shown}
+use Rattle.file_schema.specs.Parts.{row_shown}
 use Rattle.file_schema.specs.Shapes.{command_in, over, plainly}
 use Rattle.file_reads.specs.Alone.{RunsAloneIn, is_accepted, is_alone}
 use Rattle.file_reads.specs.Select.{IsSelectIn}
@@ -195,5 +195,5 @@ endless sql tree is s known same all begins many =
     let command : (c : Compiled) → understood s.now.schema sql ≡ Ok c → c.command ≡ Select (plainly (over tree [] is.project is.order)) is.names = λ c at.
     (let both : Some c.command ≡ Some (Select (plainly (over tree [] is.project is.order)) is.names) = sym (ap command_in at) ∙ ap (λ k. command_in (understood k sql)) known ∙ is.asks.0 in cc) in
     let whole = begins_shown sql [] s s all begins same (λ c db it source. subst (λ k. EndsIn k db (timed [] c.formats it.now)) (sym (command c it.is)) tt) in
-    let count : length (all ++ whole.0) ≡ length (s.now.trees tree) = sym (length_permutation _ _ (loads sql tree is s s known (all ++ whole.0) whole.1)) ∙ length-map (s.now.trees tree) (shown schema tree) in
+    let count : length (all ++ whole.0) ≡ length (s.now.trees tree) = sym (length_permutation _ _ (loads sql tree is s s known (all ++ whole.0) whole.1)) ∙ length-map (s.now.trees tree) (row_shown schema tree) in
     (tree, omega (arith, many, count, length-append all whole.0))

@@ -9,7 +9,7 @@ use Rattle.sqlite.specs.Clock.{timed}
 use Rattle.sqlite.specs.Effect.{Database, Reads}
 use Rattle.sqlite.specs.Listing.{understood, reads_listing, IsSourceOf}
 use Rattle.file_schema.specs.Tables.{schema, this_version}
-use Rattle.file_schema.specs.Parts.{shown}
+use Rattle.file_schema.specs.Parts.{row_shown}
 use Rattle.model_catalogue.specs.Limits.{last_id}
 use Rattle.model_invariant.specs.Range.{IsNextId, AllNextIds}
 use Rattle.file_rows.specs.declared.rows.ShopRow.{ShopRow}
@@ -94,7 +94,7 @@ HasTables own s = HasFirst s × ((2 ≤ own → HasSides s) × (3 ≤ own → Ha
 
 -- the rows that the table of this tree shows
 abbrev pub rows_at : Trees → ℕ → List Row
-rows_at trees tree = map (shown schema tree) (trees tree)
+rows_at trees tree = map (row_shown schema tree) (trees tree)
 
 -- a row of items, variations or quotas is of no value within its limits, or one of members of quotas is of no link
 abbrev pub IsDamagedCatalogue : Trees → Type 0

@@ -15,7 +15,7 @@ use Rattle.sqlite_trees.specs.View.{is_int}
 use Rattle.sqlite_trees.proofs.ListLemmas.{IsPermutation-filter}
 use Rattle.sqlite_schema.specs.declared.schema.Table.{Table}
 use Rattle.sqlite_schema.specs.declared.schema.Schema.{Schema}
-use Rattle.file_schema.specs.Parts.{Part, shown, HoldsPart, HoldParts, with_rows, without}
+use Rattle.file_schema.specs.Parts.{Part, row_shown, HoldsPart, HoldParts, with_rows, without}
 use Rattle.file_schema.proofs.Writes.{AreNumbered}
 
 abbrev pub Others : ℕ → Trees → Trees → List Part → Type 0
@@ -35,10 +35,10 @@ apart : (a b : ℕ) → (a == b) ≡ false → a ≢ b
 apart a b e same = let other = eq-eqb a b same in absurd cc
 
 module _ (schema : Schema) (tree : ℕ) (change : List Row → List Row) (db next : Trees)
-    (new : (rows : List Row) → IsPermutation rows (map (shown schema tree) (db tree)) → IsPermutation (change rows) (map (shown schema tree) (next tree))) where
+    (new : (rows : List Row) → IsPermutation rows (map (row_shown schema tree) (db tree)) → IsPermutation (change rows) (map (row_shown schema tree) (next tree))) where
   changed : (p : Part) → p.tree ≡ tree → HoldsPart schema db p → HoldsPart schema next (record p { rows = change p.rows })
   changed p here holds =
-      subst (λ n. IsPermutation (change p.rows) (map (shown schema n) (next n))) (sym here) (new p.rows (subst (λ n. IsPermutation p.rows (map (shown schema n) (db n))) here holds))
+      subst (λ n. IsPermutation (change p.rows) (map (row_shown schema n) (next n))) (sym here) (new p.rows (subst (λ n. IsPermutation p.rows (map (row_shown schema n) (db n))) here holds))
 
   pub after_write : (ps : List Part) → Others tree db next ps → HoldParts schema db ps → HoldParts schema next (with_rows tree change ps)
   after_write [] others all = tt
@@ -47,7 +47,7 @@ module _ (schema : Schema) (tree : ℕ) (change : List Row → List Row) (db nex
       let first : HoldsPart schema next (cond (p.tree == tree) (record p { rows = change p.rows }) p) =
       elim (p.tree == tree) as (λ b. (p.tree == tree) ≡ b → HoldsPart schema next (cond b (record p { rows = change p.rows }) p)) [
         | true ↦ λ e. changed p (eqb-true _ _ e) all.0
-        | false ↦ λ e. subst (λ l. IsPermutation p.rows (map (shown schema p.tree) l)) (sym (others.0 (apart _ _ e))) all.0
+        | false ↦ λ e. subst (λ l. IsPermutation p.rows (map (row_shown schema p.tree) l)) (sym (others.0 (apart _ _ e))) all.0
       ] refl in
       (first, rest)
 

@@ -11,7 +11,7 @@ use Rattle.sqlite_schema.specs.declared.schema.Schema.{Schema}
 use Rattle.sqlite_schema.specs.declared.schema.Table.{Table}
 use Rattle.sqlite_catalog.specs.Change.{KeepsRows}
 use Rattle.sqlite.specs.State.{State}
-use Rattle.file_schema.specs.Parts.{Part, shown, columns_of, HoldsPart, HoldParts}
+use Rattle.file_schema.specs.Parts.{Part, row_shown, columns_of, HoldsPart, HoldParts}
 use Rattle.file_schema.specs.Grown.{Grows}
 use Rattle.file_schema.proofs.Grown.{AreEmpty}
 
@@ -42,7 +42,7 @@ all_among (x ∷ xs) = ((x, ap (λ b. cond b (Some x) (find (is_of x.tree) xs)) 
 
 -- it shows what it showed
 abbrev pub ShowsAlike : Schema → Schema → Table → Type 0
-ShowsAlike first next t = (r : Row) → shown next t.tree r ≡ shown first t.tree r
+ShowsAlike first next t = (r : Row) → row_shown next t.tree r ≡ row_shown first t.tree r
 
 pub front_alike : (first next : Schema) (more : List Table) → next.tables ≡ first.tables ++ more → AllByRecursion (ShowsAlike first next) first.tables
 front_alike first next more is = all_weaker (IsAmong first.tables) (ShowsAlike first next) alike first.tables (all_among first.tables)
@@ -67,8 +67,8 @@ module _ (first next : Schema) (db after : Trees) where
       let here : t.tree ≡ p.tree = cc in
       let more : map (λ t. t.tree) tables ≡ map (λ p. p.tree) ps = cc in
       let rows : after p.tree ≡ db p.tree = subst (λ n. after n ≡ db n) here kept.0 in
-      let shows : (r : Row) → shown first p.tree r ≡ shown next p.tree r = λ r. sym (subst (λ n. shown next n r ≡ shown first n r) here (alike.0 r)) in
-      let moved : map (shown first p.tree) (db p.tree) ≡ map (shown next p.tree) (after p.tree) = mapped (shown first p.tree) (shown next p.tree) shows (db p.tree) ∙ ap (map (shown next p.tree)) (sym rows) in
+      let shows : (r : Row) → row_shown first p.tree r ≡ row_shown next p.tree r = λ r. sym (subst (λ n. row_shown next n r ≡ row_shown first n r) here (alike.0 r)) in
+      let moved : map (row_shown first p.tree) (db p.tree) ≡ map (row_shown next p.tree) (after p.tree) = mapped (row_shown first p.tree) (row_shown next p.tree) shows (db p.tree) ∙ ap (map (row_shown next p.tree)) (sym rows) in
       (subst (IsPermutation p.rows) moved all.0, parts_stand tables ps more kept.1 alike.1 all.1)
 
   parts_new : (tables : List Table) (ps : List Part) → map (λ t. t.tree) tables ≡ map (λ p. p.tree) ps → AreEmpty after tables → AllByRecursion (λ (p : Part). p.rows ≡ []) ps → HoldParts next after ps
@@ -79,7 +79,7 @@ module _ (first next : Schema) (db after : Trees) where
       let here : t.tree ≡ p.tree = cc in
       let more : map (λ t. t.tree) tables ≡ map (λ p. p.tree) ps = cc in
       let rows : after p.tree ≡ [] = subst (λ n. after n ≡ []) here none.0 in
-      let both : IsPermutation p.rows (map (shown next p.tree) (after p.tree)) = rw (all.0, rows) (IsPermutation-refl []) in
+      let both : IsPermutation p.rows (map (row_shown next p.tree) (after p.tree)) = rw (all.0, rows) (IsPermutation-refl []) in
       (both, parts_new tables ps more none.1 all.1)
 
 -- what the first tables hold they hold on, and the new ones hold nothing

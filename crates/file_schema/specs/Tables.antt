@@ -60,8 +60,8 @@ abbrev refers : ℕ → List ℕ → Reference
 refers at parent = record { columns = at ∷ []; parent = parent; parent_columns = []; on_delete = Restrict; on_update = NoAction; is_deferred = false }
 
 -- a table with an INTEGER PRIMARY KEY first
-abbrev keyed : List ℕ → ℕ → List Column → List (List ℕ) → List Term → List Reference → Table
-keyed name tree columns uniques checks references = record {
+abbrev keyed_table : List ℕ → ℕ → List Column → List (List ℕ) → List Term → List Reference → Table
+keyed_table name tree columns uniques checks references = record {
   name = name;
   tree = tree;
   columns = columns;
@@ -77,8 +77,8 @@ keyed name tree columns uniques checks references = record {
 }
 
 -- a table whose primary key is made of these columns
-abbrev paired : List ℕ → ℕ → List Column → List ℕ → List Reference → Table
-paired name tree columns primary references = record {
+abbrev paired_table : List ℕ → ℕ → List Column → List ℕ → List Reference → Table
+paired_table name tree columns primary references = record {
   name = name;
   tree = tree;
   columns = columns;
@@ -102,7 +102,7 @@ shop_text = codes "CREATE TABLE shop (id INTEGER PRIMARY KEY CHECK (id = 1), ver
 -- what `shop_text` defines: a row has the id 1, and there is no other
 abbrev pub shop_table : Table
 shop_table =
-    keyed (codes "shop") 0
+    keyed_table (codes "shop") 0
     (id (codes "id") ∷ number (codes "version") ∷ text (codes "organizer") ∷ text (codes "event") ∷ number (codes "moment") ∷ number (codes "next_item") ∷ number (codes "next_variation") ∷ number (codes "next_quota") ∷ number (codes "next_voucher") ∷ number (codes "next_cart") ∷ number (codes "next_order") ∷ number (codes "next_position") ∷ number (codes "next_waiting") ∷ number (codes "next_list") ∷ number (codes "next_checkin") ∷ number (codes "next_token") ∷ [])
     ([]) (is_number 0 1 ∷ [])
     ([])
@@ -114,7 +114,7 @@ items_text = codes "CREATE TABLE items (id INTEGER PRIMARY KEY, name TEXT NOT NU
 -- what `items_text` defines: an item is active or not, and varied or not
 abbrev pub items_table : Table
 items_table =
-    keyed (codes "items") 1
+    keyed_table (codes "items") 1
     (id (codes "id") ∷ text (codes "name") ∷ number (codes "default_price") ∷ number (codes "active") ∷ number (codes "varied") ∷ [])
     ([]) (is_truth 4 ∷ is_truth 5 ∷ [])
     ([])
@@ -126,7 +126,7 @@ variations_text = codes "CREATE TABLE variations (id INTEGER PRIMARY KEY, item_i
 -- what `variations_text` defines: a variation names its item
 abbrev pub variations_table : Table
 variations_table =
-    keyed (codes "variations") 2
+    keyed_table (codes "variations") 2
     (id (codes "id") ∷ number (codes "item_id") ∷ text (codes "name") ∷ number_or_null (codes "default_price") ∷ number (codes "active") ∷ [])
     ([]) (is_truth 5 ∷ [])
     (refers 2 (codes "items") ∷ [])
@@ -138,7 +138,7 @@ quotas_text = codes "CREATE TABLE quotas (id INTEGER PRIMARY KEY, name TEXT NOT 
 -- what `quotas_text` defines: a quota without size is unlimited
 abbrev pub quotas_table : Table
 quotas_table =
-    keyed (codes "quotas") 3
+    keyed_table (codes "quotas") 3
     (id (codes "id") ∷ text (codes "name") ∷ number_or_null (codes "size") ∷ [])
     ([]) ([])
     ([])
@@ -150,7 +150,7 @@ quota_items_text = codes "CREATE TABLE quota_items (quota_id INTEGER NOT NULL RE
 -- what `quota_items_text` defines: a quota has an item at most once
 abbrev pub quota_items_table : Table
 quota_items_table =
-    paired (codes "quota_items") 4
+    paired_table (codes "quota_items") 4
     (number (codes "quota_id") ∷ number (codes "item_id") ∷ [])
     (1 ∷ 2 ∷ [])
     (refers 1 (codes "quotas") ∷ refers 2 (codes "items") ∷ [])
@@ -162,7 +162,7 @@ quota_variations_text = codes "CREATE TABLE quota_variations (quota_id INTEGER N
 -- what `quota_variations_text` defines: a quota has a variation at most once
 abbrev pub quota_variations_table : Table
 quota_variations_table =
-    paired (codes "quota_variations") 6
+    paired_table (codes "quota_variations") 6
     (number (codes "quota_id") ∷ number (codes "variation_id") ∷ [])
     (1 ∷ 2 ∷ [])
     (refers 1 (codes "quotas") ∷ refers 2 (codes "variations") ∷ [])
@@ -174,7 +174,7 @@ vouchers_text = codes "CREATE TABLE vouchers (id INTEGER PRIMARY KEY, code TEXT 
 -- what `vouchers_text` defines: no two vouchers have one code, and each may name an item, a variation and a quota
 abbrev pub vouchers_table : Table
 vouchers_table =
-    keyed (codes "vouchers") 8
+    keyed_table (codes "vouchers") 8
     (id (codes "id") ∷ text (codes "code") ∷ number (codes "max_usages") ∷ number_or_null (codes "valid_until") ∷ number (codes "block_quota") ∷ number (codes "allow_ignore_quota") ∷ text (codes "price_mode") ∷ number_or_null (codes "amount") ∷ number_or_null (codes "item_id") ∷ number_or_null (codes "variation_id") ∷ number_or_null (codes "quota_id") ∷ text (codes "tag") ∷ text (codes "comment") ∷ number (codes "redeemed") ∷ [])
     ((2 ∷ []) ∷ []) (is_truth 5 ∷ is_truth 6 ∷ [])
     (refers 9 (codes "items") ∷ refers 10 (codes "variations") ∷ refers 11 (codes "quotas") ∷ [])
@@ -186,7 +186,7 @@ cart_positions_text = codes "CREATE TABLE cart_positions (id INTEGER PRIMARY KEY
 -- what `cart_positions_text` defines: a cart position names its item, and maybe a variation and a voucher
 abbrev pub cart_positions_table : Table
 cart_positions_table =
-    keyed (codes "cart_positions") 10
+    keyed_table (codes "cart_positions") 10
     (id (codes "id") ∷ text (codes "cart_id") ∷ number (codes "item_id") ∷ number_or_null (codes "variation_id") ∷ number (codes "price") ∷ number (codes "made_at") ∷ number (codes "expires") ∷ number_or_null (codes "voucher_id") ∷ [])
     ([]) ([])
     (refers 3 (codes "items") ∷ refers 4 (codes "variations") ∷ refers 8 (codes "vouchers") ∷ [])
@@ -198,7 +198,7 @@ orders_text = codes "CREATE TABLE orders (id INTEGER PRIMARY KEY, email TEXT, st
 -- what `orders_text` defines: an order names no other row
 abbrev pub orders_table : Table
 orders_table =
-    keyed (codes "orders") 11
+    keyed_table (codes "orders") 11
     (id (codes "id") ∷ text_or_null (codes "email") ∷ text (codes "status") ∷ number (codes "made_at") ∷ number (codes "expires") ∷ [])
     ([]) ([])
     ([])
@@ -210,7 +210,7 @@ order_positions_text = codes "CREATE TABLE order_positions (id INTEGER PRIMARY K
 -- what `order_positions_text` defines: no two tickets have one secret, nor one order and one number in it
 abbrev pub order_positions_table : Table
 order_positions_table =
-    keyed (codes "order_positions") 12
+    keyed_table (codes "order_positions") 12
     (id (codes "id") ∷ number (codes "order_id") ∷ number (codes "positionid") ∷ number (codes "item_id") ∷ number_or_null (codes "variation_id") ∷ number (codes "price") ∷ number_or_null (codes "voucher_id") ∷ text (codes "secret") ∷ [])
     ((8 ∷ []) ∷ (2 ∷ 3 ∷ []) ∷ []) ([])
     (refers 2 (codes "orders") ∷ refers 4 (codes "items") ∷ refers 5 (codes "variations") ∷ refers 7 (codes "vouchers") ∷ [])
@@ -222,7 +222,7 @@ waiting_text = codes "CREATE TABLE waiting (id INTEGER PRIMARY KEY, email TEXT N
 -- what `waiting_text` defines: a waiting entry names its item, and maybe a variation and the voucher that was sent to it
 abbrev pub waiting_table : Table
 waiting_table =
-    keyed (codes "waiting") 15
+    keyed_table (codes "waiting") 15
     (id (codes "id") ∷ text (codes "email") ∷ number (codes "item_id") ∷ number_or_null (codes "variation_id") ∷ number (codes "priority") ∷ number (codes "created") ∷ number_or_null (codes "voucher_id") ∷ [])
     ([]) ([])
     (refers 3 (codes "items") ∷ refers 4 (codes "variations") ∷ refers 7 (codes "vouchers") ∷ [])
@@ -234,7 +234,7 @@ checkin_lists_text = codes "CREATE TABLE checkin_lists (id INTEGER PRIMARY KEY, 
 -- what `checkin_lists_text` defines: each of the four settings of a list is on or off
 abbrev pub checkin_lists_table : Table
 checkin_lists_table =
-    keyed (codes "checkin_lists") 16
+    keyed_table (codes "checkin_lists") 16
     (id (codes "id") ∷ text (codes "name") ∷ number (codes "all_products") ∷ number (codes "include_pending") ∷ number (codes "multiple") ∷ number (codes "after_exit") ∷ [])
     ([]) (is_truth 3 ∷ is_truth 4 ∷ is_truth 5 ∷ is_truth 6 ∷ [])
     ([])
@@ -246,7 +246,7 @@ list_items_text = codes "CREATE TABLE list_items (list_id INTEGER NOT NULL REFER
 -- what `list_items_text` defines: a list has an item at most once
 abbrev pub list_items_table : Table
 list_items_table =
-    paired (codes "list_items") 17
+    paired_table (codes "list_items") 17
     (number (codes "list_id") ∷ number (codes "item_id") ∷ [])
     (1 ∷ 2 ∷ [])
     (refers 1 (codes "checkin_lists") ∷ refers 2 (codes "items") ∷ [])
@@ -258,7 +258,7 @@ checkins_text = codes "CREATE TABLE checkins (id INTEGER PRIMARY KEY, list_id IN
 -- what `checkins_text` defines: a list has a nonce at most once for a ticket
 abbrev pub checkins_table : Table
 checkins_table =
-    keyed (codes "checkins") 19
+    keyed_table (codes "checkins") 19
     (id (codes "id") ∷ number (codes "list_id") ∷ number (codes "position_id") ∷ text (codes "kind") ∷ number (codes "at") ∷ text_or_null (codes "nonce") ∷ [])
     ((2 ∷ 3 ∷ 6 ∷ []) ∷ []) ([])
     (refers 2 (codes "checkin_lists") ∷ refers 3 (codes "order_positions") ∷ [])
@@ -270,7 +270,7 @@ quota_count_text = codes "CREATE TABLE quota_count (quota_id INTEGER PRIMARY KEY
 -- what `quota_count_text` defines: one row for a quota, with its id
 abbrev pub quota_count_table : Table
 quota_count_table =
-    keyed (codes "quota_count") 21
+    keyed_table (codes "quota_count") 21
     (id (codes "quota_id") ∷ number (codes "paid") ∷ number (codes "pending") ∷ number (codes "blocked") ∷ number (codes "carts") ∷ number (codes "waiting") ∷ [])
     ([]) ([])
     (refers 0 (codes "quotas") ∷ [])
@@ -282,7 +282,7 @@ tokens_text = codes "CREATE TABLE tokens (id INTEGER PRIMARY KEY, digest BLOB NO
 -- what `tokens_text` defines: no two tokens have one digest
 abbrev pub tokens_table : Table
 tokens_table =
-    keyed (codes "tokens") 22
+    keyed_table (codes "tokens") 22
     (id (codes "id") ∷ blob (codes "digest") ∷ [])
     ((2 ∷ []) ∷ []) ([])
     ([])
@@ -294,7 +294,7 @@ kept_text = codes "CREATE TABLE kept (token_id INTEGER NOT NULL REFERENCES token
 -- what `kept_text` defines: a token has a key at most once
 abbrev pub kept_table : Table
 kept_table =
-    paired (codes "kept") 24
+    paired_table (codes "kept") 24
     (number (codes "token_id") ∷ blob (codes "request_key") ∷ number (codes "first_moment") ∷ number (codes "status") ∷ text (codes "allow") ∷ blob (codes "body") ∷ [])
     (1 ∷ 2 ∷ [])
     (refers 1 (codes "tokens") ∷ [])
@@ -306,7 +306,7 @@ quota_release_text = codes "CREATE TABLE quota_release (quota_id INTEGER PRIMARY
 -- what `quota_release_text` defines: a row is no more than the id of its quota
 abbrev pub quota_release_table : Table
 quota_release_table =
-    keyed (codes "quota_release") 27
+    keyed_table (codes "quota_release") 27
     (id (codes "quota_id") ∷ [])
     ([]) ([])
     (refers 0 (codes "quotas") ∷ [])
@@ -318,7 +318,7 @@ quota_exited_text = codes "CREATE TABLE quota_exited (quota_id INTEGER PRIMARY K
 -- what `quota_exited_text` defines: one row for a quota, with its id
 abbrev pub quota_exited_table : Table
 quota_exited_table =
-    keyed (codes "quota_exited") 28
+    keyed_table (codes "quota_exited") 28
     (id (codes "quota_id") ∷ number (codes "exited") ∷ [])
     ([]) ([])
     (refers 0 (codes "quotas") ∷ [])
@@ -330,7 +330,7 @@ voucher_budget_text = codes "CREATE TABLE voucher_budget (voucher_id INTEGER PRI
 -- what `voucher_budget_text` defines: one row for a voucher, with its id
 abbrev pub voucher_budget_table : Table
 voucher_budget_table =
-    keyed (codes "voucher_budget") 29
+    keyed_table (codes "voucher_budget") 29
     (id (codes "voucher_id") ∷ number (codes "budget") ∷ [])
     ([]) ([])
     (refers 0 (codes "vouchers") ∷ [])
@@ -342,7 +342,7 @@ voucher_spent_text = codes "CREATE TABLE voucher_spent (voucher_id INTEGER PRIMA
 -- what `voucher_spent_text` defines: one row for a voucher, with its id
 abbrev pub voucher_spent_table : Table
 voucher_spent_table =
-    keyed (codes "voucher_spent") 30
+    keyed_table (codes "voucher_spent") 30
     (id (codes "voucher_id") ∷ number (codes "spent") ∷ [])
     ([]) ([])
     (refers 0 (codes "vouchers") ∷ [])
@@ -354,7 +354,7 @@ position_discount_text = codes "CREATE TABLE position_discount (position_id INTE
 -- what `position_discount_text` defines: one row for a ticket, with its id
 abbrev pub position_discount_table : Table
 position_discount_table =
-    keyed (codes "position_discount") 31
+    keyed_table (codes "position_discount") 31
     (id (codes "position_id") ∷ number (codes "discount") ∷ [])
     ([]) ([])
     (refers 0 (codes "order_positions") ∷ [])

@@ -23,7 +23,7 @@ use Rattle.file_meaning.proofs.Typed.{token_typed}
 use Rattle.file_tables.specs.Held.{number_of}
 use Rattle.file_tables.specs.Shops.{HoldsWhileOpen, Tells, Knows, KnowsWhileOpen, LeavesHouse, HoldNoOther, Leaves, house_of_rows}
 use Rattle.file_tables.proofs.ShopLemmas.{declared, still_holds, still_knows, house_still, leaves_still}
-use Rattle.file_tables.specs.Tokens.{most_tokens, also_known, house_with, IsNumbered, HasNoRoom, raised, next_one, head_after, tables_after}
+use Rattle.file_tables.specs.Tokens.{most_tokens, also_known, house_with, IsNumbered, HasNoRoom, token_raised, next_one, head_after, tables_after}
 
 -- ---- nothing changed
 
@@ -69,20 +69,20 @@ module _ (head : ShopRow) (digest : List ℕ) (next : ℕ) (old new : Connected)
   token = next_one head digest
 
   abbrev adds : Database → Database → Type 0
-  adds = HasToken (raised head) token
+  adds = HasToken (token_raised head) token
 
-  pub added_holds : head.next_token ≤ most_tokens → IsDigest digest → IsWritten adds old new → (s : State) (ks : List Kept) → HoldsWhileOpen head next old s ks → HoldsWhileOpen (raised head) next new s ks
+  pub added_holds : head.next_token ≤ most_tokens → IsDigest digest → IsWritten adds old new → (s : State) (ks : List Kept) → HoldsWhileOpen head next old s ks → HoldsWhileOpen (token_raised head) next new s ks
   added_holds room is w s ks holds is_open =
       let it = holds w.was_open in
       record {
         known = w.turned.known;
         outside = w.outside;
         settled = w.settled;
-        tables = token_added (raised head) token it.tables;
+        tables = token_added (token_raised head) token it.tables;
         held = w.turned.holds it.tables it.held;
-        stand = token_stands head (raised head) token it.tables s ks refl refl it.stand;
+        stand = token_stands head (token_raised head) token it.tables s ks refl refl it.stand;
         typed = token_typed head digest it.tables (omega (arith, room)) is it.typed;
-        free = token_free (raised head) token it.tables next it.free;
+        free = token_free (token_raised head) token it.tables next it.free;
       }
 
   pub number_too : (tokens : List ℕ → Option ℕ) (all : List Token) → ((other : List ℕ) → tokens other ≡ number_of all other) → (other : List ℕ) → also_known digest head.next_token tokens other ≡ number_of (token ∷ all) other
@@ -91,20 +91,20 @@ module _ (head : ShopRow) (digest : List ℕ) (next : ℕ) (old new : Connected)
   abbrev with_next : House → House
   with_next house = house_with digest head.next_token (head.next_token + 1) house
 
-  same_added : (house : House) (all : List Token) → house ≡ house_of_rows head all → with_next house ≡ house_of_rows (raised head) (token ∷ all)
+  same_added : (house : House) (all : List Token) → house ≡ house_of_rows head all → with_next house ≡ house_of_rows (token_raised head) (token ∷ all)
   same_added house all told =
       let too = number_too house.tokens all (λ other. ap (λ (h : House). h.tokens other) told) in
       λ i. record { organizer = (told i).organizer; event = (told i).event; tokens = λ other. too other i; next_token = head.next_token + 1 }
 
-  pub added_tells : (db : Trees) (house : House) (t : Tables) → t.shop ≡ head ∷ [] → house ≡ house_of_rows head t.tokens → Holds db (token_added (raised head) token t) → Tells db (raised head) (with_next house)
+  pub added_tells : (db : Trees) (house : House) (t : Tables) → t.shop ≡ head ∷ [] → house ≡ house_of_rows head t.tokens → Holds db (token_added (token_raised head) token t) → Tells db (token_raised head) (with_next house)
   added_tells db house t row told held = record {
-    tables = token_added (raised head) token t;
+    tables = token_added (token_raised head) token t;
     held = held;
-    shop_is = ap (λ (l : List ShopRow). (with_shop (raised head) (without_shop 1 (record t { shop = l }))).shop) row;
+    shop_is = ap (λ (l : List ShopRow). (with_shop (token_raised head) (without_shop 1 (record t { shop = l }))).shop) row;
     told = same_added house t.tokens told;
   }
 
-  pub added_knows : IsWritten adds old new → (house : House) → KnowsWhileOpen head next old house → KnowsWhileOpen (raised head) next new (with_next house)
+  pub added_knows : IsWritten adds old new → (house : House) → KnowsWhileOpen head next old house → KnowsWhileOpen (token_raised head) next new (with_next house)
   unfolding added_tells
   added_knows w house knows is_open =
       let it = knows w.was_open in
@@ -112,20 +112,20 @@ module _ (head : ShopRow) (digest : List ℕ) (next : ℕ) (old new : Connected)
       record {
         known = w.turned.known;
         tells = added_tells new.now.trees house t it.tells.shop_is it.tells.told (w.turned.holds t it.tells.held);
-        free = token_free (raised head) token t next it.free;
+        free = token_free (token_raised head) token t next it.free;
       }
 
   -- of an open connection a crash leaves the last commit
   pub added_leaves : ((db : Trees) → IsTrue new.is_open → new.may_leave db → db ≡ new.committed.trees) → IsWritten adds old new → (house : House) → KnowsWhileOpen head next old house → LeavesHouse new (with_next house)
   added_leaves law w house knows trees may =
       let same : trees ≡ new.now.trees = law trees w.is_open may ∙ sym (ap (λ (d : Database). d.trees) w.settled) in
-      (declared new.now trees w.listed w.turned.known same, (raised head, subst (λ (db : Trees). Tells db (raised head) (with_next house)) (sym same) (added_knows w house knows w.is_open).tells))
+      (declared new.now trees w.listed w.turned.known same, (token_raised head, subst (λ (db : Trees). Tells db (token_raised head) (with_next house)) (sym same) (added_knows w house knows w.is_open).tells))
 
   left_so : head.next_token ≤ most_tokens → IsDigest digest → (db : Trees) → MayBeWritten schema (λ (_ : Unit {0}). adds) old db → (left : ShopView) → HoldNoOther db left → (s : State) (ks : List Kept) → HoldsWhileOpen head next old s ks → IsSame left (record { state = s; kept = ks })
   left_so room is db may left only s ks holds =
       let it = holds may.was_open in
-      let here : Holds db (token_added (raised head) token it.tables) = subst (λ d. Holds d (token_added (raised head) token it.tables)) (sym may.is) ((may.turned it.known).holds it.tables it.held) in
-      only (raised head) (token_added (raised head) token it.tables) (record { state = s; kept = ks }) here (token_stands head (raised head) token it.tables s ks refl refl it.stand) (token_typed head digest it.tables (omega (arith, room)) is it.typed)
+      let here : Holds db (token_added (token_raised head) token it.tables) = subst (λ d. Holds d (token_added (token_raised head) token it.tables)) (sym may.is) ((may.turned it.known).holds it.tables it.held) in
+      only (token_raised head) (token_added (token_raised head) token it.tables) (record { state = s; kept = ks }) here (token_stands head (token_raised head) token it.tables s ks refl refl it.stand) (token_typed head digest it.tables (omega (arith, room)) is it.typed)
 
   pub leaves_or : head.next_token ≤ most_tokens → IsDigest digest → Survives old new (MayBeWritten schema (λ (_ : Unit {0}). adds) old) → (left : ShopView) → Leaves new left → Leaves old left ⊎ ((s : State) (ks : List Kept) → HoldsWhileOpen head next old s ks → IsSame left (record { state = s; kept = ks }))
   leaves_or room is h left l =
@@ -157,16 +157,16 @@ pub no_room : (next : ℕ) (o : Option ℕ) → None ≡ o → most_tokens < nex
 no_room next None e h = h
 no_room next (Some known) e h = absurd cc
 
-pub next_head : {T E : Type 0} (r : Result T E) (head now : ShopRow) (o : Option ℕ) → None ≡ o → OnOk r (now ≡ raised head) → OnOk r (now ≡ head_after o head)
+pub next_head : {T E : Type 0} (r : Result T E) (head now : ShopRow) (o : Option ℕ) → None ≡ o → OnOk r (now ≡ token_raised head) → OnOk r (now ≡ head_after o head)
 next_head r head now None e h = h
 next_head r head now (Some known) e h = absurd cc
 
 -- ---- after a look-up that found no number
 
 module _ {E : Type 0} (r : Result ℕ E) (head : ShopRow) (digest : List ℕ) (next : ℕ) (old mid new : Connected) where
-  pub then_tables : (o : Option ℕ) → None ≡ o → IsStill old mid → OnOk r (IsWritten (HasToken (raised head) (next_one head digest)) mid new)
+  pub then_tables : (o : Option ℕ) → None ≡ o → IsStill old mid → OnOk r (IsWritten (HasToken (token_raised head) (next_one head digest)) mid new)
       → OnOk r ((t : Tables) → Holds old.now.trees t → Holds new.now.trees (tables_after o head digest t))
-  then_tables None e still = elim r as (λ x. OnOk x (IsWritten (HasToken (raised head) (next_one head digest)) mid new) → OnOk x ((t : Tables) → Holds old.now.trees t → Holds new.now.trees (token_added (raised head) (next_one head digest) t))) [
+  then_tables None e still = elim r as (λ x. OnOk x (IsWritten (HasToken (token_raised head) (next_one head digest)) mid new) → OnOk x ((t : Tables) → Holds old.now.trees t → Holds new.now.trees (token_added (token_raised head) (next_one head digest) t))) [
     | Ok number ↦ λ w t held. w.turned.holds t (still_shows old mid still w.was_open t held)
     | Err error ↦ λ w. tt
   ]
@@ -176,37 +176,37 @@ module _ {E : Type 0} (r : Result ℕ E) (head : ShopRow) (digest : List ℕ) (n
   IsNext x = IfOk x (λ number. (number ≡ head.next_token) × (head.next_token ≤ most_tokens))
 
   abbrev Writes : Result ℕ E → Type 0
-  Writes x = OnOk x (IsWritten (HasToken (raised head) (next_one head digest)) mid new)
+  Writes x = OnOk x (IsWritten (HasToken (token_raised head) (next_one head digest)) mid new)
 
-  pub then_knows : (now : ShopRow) (n : ℕ) → n ≡ next → (house : House) → IsStill old mid → KnowsWhileOpen head next old house → IsNext r → OnOk r (now ≡ raised head) → Writes r
+  pub then_knows : (now : ShopRow) (n : ℕ) → n ≡ next → (house : House) → IsStill old mid → KnowsWhileOpen head next old house → IsNext r → OnOk r (now ≡ token_raised head) → Writes r
       → IfOk r (λ number. KnowsWhileOpen now n new (house_with digest number now.next_token house))
-  then_knows now n row house still knows = elim r as (λ x. IsNext x → OnOk x (now ≡ raised head) → Writes x → IfOk x (λ number. KnowsWhileOpen now n new (house_with digest number now.next_token house))) [
+  then_knows now n row house still knows = elim r as (λ x. IsNext x → OnOk x (now ≡ token_raised head) → Writes x → IfOk x (λ number. KnowsWhileOpen now n new (house_with digest number now.next_token house))) [
     | Ok number ↦ λ is now_is w. rw (is.0, row, now_is) (added_knows head digest next mid new w house (still_knows head next old mid house still knows))
     | Err error ↦ λ is now_is w. tt
   ]
 
   pub then_leaves_house : ((db : Trees) → IsTrue new.is_open → new.may_leave db → db ≡ new.committed.trees) → (now : ShopRow) (house : House) → IsStill old mid → KnowsWhileOpen head next old house
-      → IsNext r → OnOk r (now ≡ raised head) → Writes r → IfOk r (λ number. LeavesHouse new (house_with digest number now.next_token house))
-  then_leaves_house law now house still knows = elim r as (λ x. IsNext x → OnOk x (now ≡ raised head) → Writes x → IfOk x (λ number. LeavesHouse new (house_with digest number now.next_token house))) [
+      → IsNext r → OnOk r (now ≡ token_raised head) → Writes r → IfOk r (λ number. LeavesHouse new (house_with digest number now.next_token house))
+  then_leaves_house law now house still knows = elim r as (λ x. IsNext x → OnOk x (now ≡ token_raised head) → Writes x → IfOk x (λ number. LeavesHouse new (house_with digest number now.next_token house))) [
     | Ok number ↦ λ is now_is w. rw (is.0, now_is) (added_leaves head digest next mid new law w house (still_knows head next old mid house still knows))
     | Err error ↦ λ is now_is w. tt
   ]
 
-  pub then_holds : (now : ShopRow) (n : ℕ) → n ≡ next → (s : State) (ks : List Kept) → IsStill old mid → HoldsWhileOpen head next old s ks → IsDigest digest → IfOk r (λ number. (number ≡ head.next_token) × (head.next_token ≤ most_tokens)) → OnOk r (now ≡ raised head) → OnErr r (now ≡ head)
-      → OnOk r (IsWritten (HasToken (raised head) (next_one head digest)) mid new) → OnErr r (IsStill mid new) → HoldsWhileOpen now n new s ks
-  then_holds now n row s ks still holds digest_is = elim r as (λ x. IfOk x (λ number. (number ≡ head.next_token) × (head.next_token ≤ most_tokens)) → OnOk x (now ≡ raised head) → OnErr x (now ≡ head) → OnOk x (IsWritten (HasToken (raised head) (next_one head digest)) mid new) → OnErr x (IsStill mid new) → HoldsWhileOpen now n new s ks) [
+  pub then_holds : (now : ShopRow) (n : ℕ) → n ≡ next → (s : State) (ks : List Kept) → IsStill old mid → HoldsWhileOpen head next old s ks → IsDigest digest → IfOk r (λ number. (number ≡ head.next_token) × (head.next_token ≤ most_tokens)) → OnOk r (now ≡ token_raised head) → OnErr r (now ≡ head)
+      → OnOk r (IsWritten (HasToken (token_raised head) (next_one head digest)) mid new) → OnErr r (IsStill mid new) → HoldsWhileOpen now n new s ks
+  then_holds now n row s ks still holds digest_is = elim r as (λ x. IfOk x (λ number. (number ≡ head.next_token) × (head.next_token ≤ most_tokens)) → OnOk x (now ≡ token_raised head) → OnErr x (now ≡ head) → OnOk x (IsWritten (HasToken (token_raised head) (next_one head digest)) mid new) → OnErr x (IsStill mid new) → HoldsWhileOpen now n new s ks) [
     | Ok number ↦ λ known is _ w _. rw (is, row) (added_holds head digest next mid new known.1 digest_is w s ks (still_holds head next old mid s ks still holds))
     | Err error ↦ λ _ _ is _ late. rw (is, row) (still_holds head next mid new s ks late (still_holds head next old mid s ks still holds))
   ]
 
-  pub then_settled : ((db : Trees) → IsTrue new.is_open → new.may_leave db → db ≡ new.committed.trees) → OnOk r (IsWritten (HasToken (raised head) (next_one head digest)) mid new)
+  pub then_settled : ((db : Trees) → IsTrue new.is_open → new.may_leave db → db ≡ new.committed.trees) → OnOk r (IsWritten (HasToken (token_raised head) (next_one head digest)) mid new)
       → OnOk r ((db : Trees) → new.may_leave db → db ≡ new.now.trees)
-  then_settled law = elim r as (λ x. OnOk x (IsWritten (HasToken (raised head) (next_one head digest)) mid new) → OnOk x ((db : Trees) → new.may_leave db → db ≡ new.now.trees)) [
+  then_settled law = elim r as (λ x. OnOk x (IsWritten (HasToken (token_raised head) (next_one head digest)) mid new) → OnOk x ((db : Trees) → new.may_leave db → db ≡ new.now.trees)) [
     | Ok number ↦ λ w db may. law db w.is_open may ∙ sym (ap (λ (d : Database). d.trees) w.settled)
     | Err error ↦ λ w. tt
   ]
 
-  pub then_leaves : IsDigest digest → (most_tokens < head.next_token → Survives mid new (λ _. ⊥)) → Survives old mid (λ _. ⊥) → (HasCleanDisk mid → IsStill old mid) → Survives mid new (MayBeWritten schema (λ (_ : Unit {0}). HasToken (raised head) (next_one head digest)) mid) → (left : ShopView) → Leaves new left
+  pub then_leaves : IsDigest digest → (most_tokens < head.next_token → Survives mid new (λ _. ⊥)) → Survives old mid (λ _. ⊥) → (HasCleanDisk mid → IsStill old mid) → Survives mid new (MayBeWritten schema (λ (_ : Unit {0}). HasToken (token_raised head) (next_one head digest)) mid) → (left : ShopView) → Leaves new left
       → Leaves old left ⊎ ((s : State) (ks : List Kept) → HoldsWhileOpen head next old s ks → IsSame left (record { state = s; kept = ks }))
   then_leaves digest_is full one still two left l =
       let clean : HasCleanDisk mid = let more = l.clean in omega (arith, two.clean) in

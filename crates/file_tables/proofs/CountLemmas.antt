@@ -7,7 +7,7 @@ use Rattle.file_rows.specs.Tables.{Tables}
 use Rattle.file_rows.specs.Changes.{Changes, ChangesFit, head_of_spent, with_spent, without_spent}
 use Rattle.file_meaning.specs.Free.{IsFree}
 use Rattle.file_writes.specs.Vouchers as rows
-use Rattle.file_meaning.specs.Made.{put_count, put_exit, put_uses, set_redeemed, each, counted}
+use Rattle.file_meaning.specs.Made.{put_count, put_exit, put_uses, set_redeemed, each, with_counts}
 use Rattle.file_tables.specs.Free.{uses_stay_free}
 use Rattle.file_tables.specs.Steps.{made_each, next_each}
 use Rattle.file_tables.proofs.RowLemmas.{redeemed_set}
@@ -32,14 +32,14 @@ free_uses (x ∷ xs) from t h = free_uses xs from (put_uses x t) (uses_stay_free
 
 -- the vouchers' counts, then those of quotas, and then how many tickets are out
 pub all_counted : (counts : CountRows) (from free : ℕ) (old set used new : State) → free ≡ next_each (λ (x : VoucherCount) n. n) counts.vouchers from → ChangesFit (IsFree from) (each_of put_uses counts.vouchers from) old set
-    → ChangesFit (IsFree free) (each_of put_count counts.quotas free) set used → Changes (each put_exit counts.exits) used new → ChangesFit (IsFree from) (counted counts) old new
+    → ChangesFit (IsFree free) (each_of put_count counts.quotas free) set used → Changes (each put_exit counts.exits) used new → ChangesFit (IsFree from) (with_counts counts) old new
 all_counted counts from free old set used new is a b c =
     let same : free ≡ from = is ∙ next_same counts.vouchers from in
     let b2 : ChangesFit (IsFree from) (each_of put_count counts.quotas from) set used = subst (λ n. ChangesFit (IsFree n) (each_of put_count counts.quotas n) set used) same b in
     let both = then_fits (IsFree from) (IsFree from) (each_of put_uses counts.vouchers from) (each_of put_count counts.quotas from) old set used (free_uses counts.vouchers from) a b2 in
     let first : Tables → Tables = λ t. each_of put_count counts.quotas from (each_of put_uses counts.vouchers from t) in
     let last = each put_exit counts.exits in
-    fits_as (IsFree from) (λ t. last (first t)) (counted counts) old new
+    fits_as (IsFree from) (λ t. last (first t)) (with_counts counts) old new
     (λ t. ap last (same_each put_count counts.quotas from (each_of put_uses counts.vouchers from t) ∙ ap (each put_count counts.quotas) (same_each put_uses counts.vouchers from t)))
     (then_fits (IsFree from) (λ _. Unit {0}) first last old used new (λ t fits. tt) both (fits_all (λ _. Unit {0}) last used new c))
 

@@ -13,7 +13,7 @@ use Rattle.file_rows.specs.Changes.{Changes, ChangesFit, with_quota, without_quo
 use Rattle.file_writes.specs.Removed.{AreApart, of_others}
 use Rattle.file_meaning.specs.Free.{IsFree}
 use Rattle.file_meaning.specs.Links.{are_just}
-use Rattle.file_meaning.specs.Made.{numbered, put_links, with_limits, without_limits, put_items, put_variations, put_release, put_quota, put_list}
+use Rattle.file_meaning.specs.Made.{links_numbered, put_links, with_limits, without_limits, put_items, put_variations, put_release, put_quota, put_list}
 use Rattle.file_tables.specs.Steps.{made_each, next_each}
 use Rattle.file_tables.proofs.RowLemmas.{apart}
 use Rattle.file_tables.proofs.Steps.{changes_as}
@@ -50,14 +50,14 @@ module _ {A : Type 0} (row_of : ℕ → ℕ → ℕ → A) (number owner member 
   linked id from ids t = put (put_links owner member (row id) id from ids (rows t)) t
 
   -- rows that are numbered one after another
-  pub one_by_one : (id from : ℕ) (ids : List ℕ) (t : Tables) → added id from ids t ≡ put (numbered (row id) from ids (rows t)) t
+  pub one_by_one : (id from : ℕ) (ids : List ℕ) (t : Tables) → added id from ids t ≡ put (links_numbered (row id) from ids (rows t)) t
   one_by_one id from [] t = sym (are_same t)
   one_by_one id from (m ∷ ids) t =
       let more = row_of from id m ∷ rows t in
-      ap (added id (from + 1) ids) (adds (row_of from id m) t) ∙ one_by_one id (from + 1) ids (put more t) ∙ ap (λ xs. put (numbered (row id) (from + 1) ids xs) (put more t)) (are_there more t) ∙ are_last _ more t
+      ap (added id (from + 1) ids) (adds (row_of from id m) t) ∙ one_by_one id (from + 1) ids (put more t) ∙ ap (λ xs. put (links_numbered (row id) (from + 1) ids xs) (put more t)) (are_there more t) ∙ are_last _ more t
 
   abbrev so : ℕ → ℕ → List ℕ → Tables → Bool → Tables
-  so id from ids t just = put (cond just (rows t) (numbered (row id) from ids (of_others owner id (rows t)))) t
+  so id from ids t just = put (cond just (rows t) (links_numbered (row id) from ids (of_others owner id (rows t)))) t
 
   -- whether the members that stand are just these
   abbrev pub just : ℕ → List ℕ → Tables → Bool
@@ -82,8 +82,8 @@ module _ {A : Type 0} (row_of : ℕ → ℕ → ℕ → A) (number owner member 
     holds = λ t fits held.
         let left = of_others owner id (rows t) in
         let h2 : Holds s2.now.trees (put left t) = b.holds t fits (a.holds t held) in
-        let is : added id from ids (put left t) ≡ put (numbered (row id) from ids left) t =
-        one_by_one id from ids (put left t) ∙ ap (λ xs. put (numbered (row id) from ids xs) (put left t)) (are_there left t) ∙ are_last _ left t in
+        let is : added id from ids (put left t) ≡ put (links_numbered (row id) from ids left) t =
+        one_by_one id from ids (put left t) ∙ ap (λ xs. put (links_numbered (row id) from ids xs) (put left t)) (are_there left t) ∙ are_last _ left t in
         subst (λ b. Holds s3.now.trees (so id from ids t b)) (other t held) (subst (Holds s3.now.trees) is (c.holds (put left t) h2));
   }
 

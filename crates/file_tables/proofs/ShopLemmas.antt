@@ -7,18 +7,18 @@ use Rattle.sqlite_schema.specs.declared.schema.Schema.{Schema}
 use Rattle.sqlite.specs.Effect.{Database, IsDatabase}
 use Rattle.sqlite.specs.State.{State as Connected, HasCleanDisk, Survives}
 use Rattle.file_schema.specs.Tables.{schema}
-use Rattle.model_rows.specs.Change.{Changed, applied}
+use Rattle.model_rows.specs.Change.{Changed, changes_applied}
 use Rattle.model_rows.specs.CountRows.{CountRows, counts_after}
 use Rattle.model_rows.specs.Lists.{State}
 use Rattle.model_rows.specs.declared.rows.NextIds.{NextIds}
 use Rattle.model_answers.specs.declared.kept.Kept.{Kept}
 use Rattle.model_answers.specs.House.{House}
-use Rattle.model_answers.specs.ShopView.{ShopView, IsSame, listed, with_kept, committed}
+use Rattle.model_answers.specs.ShopView.{ShopView, IsSame, kept_listed, with_kept, view_committed}
 use Rattle.file_rows.specs.declared.rows.ShopRow.{ShopRow}
 use Rattle.file_rows.specs.Tables.{Tables, Holds}
 use Rattle.file_meaning.specs.Free.{IsFree}
 use Rattle.file_meaning.specs.Lawful.{puts_come_first}
-use Rattle.file_meaning.specs.Made.{done, next_after}
+use Rattle.file_meaning.specs.Made.{commit_made, next_after}
 use Rattle.file_meaning.specs.Stands.{IsRising, Stand}
 use Rattle.file_meaning.proofs.Carried.{carried, free_done, shop_put, tokens_stay}
 use Rattle.file_meaning.specs.Typed.{IsTypedChange, IsTypedKept, IsTypedShop, IsSameShop}
@@ -30,7 +30,7 @@ use Rattle.file_tables.specs.Shops.{Keeps, HoldsWhileOpen, Tells, Knows, KnowsWh
 
 -- the trees of a database over our schema list it
 pub declared : (db : Database) (trees : Trees) → IsDatabase db → db.schema ≡ schema → trees ≡ db.trees → AreDeclared trees
-declared db trees listed known same = subst (λ (t : Trees). AreDeclared t) (sym same) (subst (λ (s : Schema). IsDatabase (record { schema = s; trees = db.trees })) known listed)
+declared db trees kept_listed known same = subst (λ (t : Trees). AreDeclared t) (sym same) (subst (λ (s : Schema). IsDatabase (record { schema = s; trees = db.trees })) known kept_listed)
 
 -- ---- nothing changed
 
@@ -79,23 +79,23 @@ pub moved_on : (head : ShopRow) (at : ℕ) (next : NextIds) → IsSameShop head 
 moved_on head at next = record { version = refl; organizer = refl; event = refl; token = refl }
 
 module _ (head shop : ShopRow) (changes : Changed) (counts : CountRows) (from : ℕ) (o : Option (Bor Kept)) (number : shop.next ≡ changes.next) (rising : AllByRecursion IsRising changes.list) (first : puts_come_first false changes.list ≡ true)
-    (same : IsSameShop head shop) (of_changes : AllByRecursion IsTypedChange changes.list) (of_kept : AllByRecursion IsTypedKept (listed o)) (old new : Connected) where
+    (same : IsSameShop head shop) (of_changes : AllByRecursion IsTypedChange changes.list) (of_kept : AllByRecursion IsTypedKept (kept_listed o)) (old new : Connected) where
   abbrev change : Tables → Tables
-  change = done shop changes.list counts from (listed o) shop.moment
+  change = commit_made shop changes.list counts from (kept_listed o) shop.moment
 
   abbrev turns : ℕ → Database → Database → Type 0
   turns free before after = (free ≡ next_after changes.list from + 1) × Turns from change before after
 
   abbrev is_right : State → Type 0
-  is_right s = counts ≡ counts_after s (applied changes shop.moment s)
+  is_right s = counts ≡ counts_after s (changes_applied changes shop.moment s)
 
-  carried_here : (s : State) (ks : List Kept) (it : Keeps head from old s ks) → is_right s → Stand shop (change it.tables) (applied changes shop.moment s) (with_kept shop.moment ks (listed o))
+  carried_here : (s : State) (ks : List Kept) (it : Keeps head from old s ks) → is_right s → Stand shop (change it.tables) (changes_applied changes shop.moment s) (with_kept shop.moment ks (kept_listed o))
   carried_here s ks it right = carried head shop changes counts from shop.moment o refl number rising first it.tables s ks right it.stand it.free
 
   typed_here : (s : State) (ks : List Kept) (it : Keeps head from old s ks) → IsTypedShop shop (change it.tables)
-  typed_here s ks it = committed_typed head shop changes.list counts from (listed o) shop.moment it.tables same of_changes of_kept it.free it.typed
+  typed_here s ks it = committed_typed head shop changes.list counts from (kept_listed o) shop.moment it.tables same of_changes of_kept it.free it.typed
 
-  pub written_holds : (free : ℕ) → IsWritten (turns free) old new → (s : State) (ks : List Kept) → HoldsWhileOpen head from old s ks → is_right s → HoldsWhileOpen shop free new (applied changes shop.moment s) (with_kept shop.moment ks (listed o))
+  pub written_holds : (free : ℕ) → IsWritten (turns free) old new → (s : State) (ks : List Kept) → HoldsWhileOpen head from old s ks → is_right s → HoldsWhileOpen shop free new (changes_applied changes shop.moment s) (with_kept shop.moment ks (kept_listed o))
   written_holds free w s ks holds right is_open =
       let it = holds w.was_open in
       record {
@@ -106,7 +106,7 @@ module _ (head shop : ShopRow) (changes : Changed) (counts : CountRows) (from : 
         held = w.turned.1.holds it.tables it.free it.held;
         stand = carried_here s ks it right;
         typed = typed_here s ks it;
-        free = rw w.turned.0 (free_done shop changes.list counts from (listed o) shop.moment it.tables it.free);
+        free = rw w.turned.0 (free_done shop changes.list counts from (kept_listed o) shop.moment it.tables it.free);
       }
 
   -- the shop's row has the names that it had, and no token came or went
@@ -114,13 +114,13 @@ module _ (head shop : ShopRow) (changes : Changed) (counts : CountRows) (from : 
   same_house t free =
       let organizer = sym same.organizer in
       let event = sym same.event in
-      let all = sym (tokens_stay shop changes.list counts from shop.moment (listed o) t free) in
+      let all = sym (tokens_stay shop changes.list counts from shop.moment (kept_listed o) t free) in
       let next = sym same.token in
       λ i. record { organizer = organizer i; event = event i; tokens = number_of (all i); next_token = next i }
 
   tells_on : (db : Trees) (house : House) (t : Tables) → IsFree from t → house ≡ house_of_rows head t.tokens → Holds db (change t) → Tells db shop house
   tells_on db house t free told held =
-      record { tables = change t; held = held; shop_is = shop_put shop changes.list counts from shop.moment (listed o) t free; told = told ∙ same_house t free }
+      record { tables = change t; held = held; shop_is = shop_put shop changes.list counts from shop.moment (kept_listed o) t free; told = told ∙ same_house t free }
 
   pub written_knows : (free : ℕ) → IsWritten (turns free) old new → (house : House) → KnowsWhileOpen head from old house → KnowsWhileOpen shop free new house
   unfolding tells_on
@@ -130,7 +130,7 @@ module _ (head shop : ShopRow) (changes : Changed) (counts : CountRows) (from : 
       record {
         known = w.turned.1.known;
         tells = tells_on new.now.trees house t it.free it.tells.told (w.turned.1.holds t it.free it.tells.held);
-        free = rw w.turned.0 (free_done shop changes.list counts from (listed o) shop.moment t it.free);
+        free = rw w.turned.0 (free_done shop changes.list counts from (kept_listed o) shop.moment t it.free);
       }
 
   -- what a crash leaves of it is of the same house, whether it was made or not
@@ -149,14 +149,14 @@ module _ (head shop : ShopRow) (changes : Changed) (counts : CountRows) (from : 
   pub written_house : (free : ℕ) → HasCleanDisk new → IsWritten (turns free) old new → Survives old new (MayBeWritten schema turns old) → (house : House) → IsOfHouse head from old house → IsOfHouse shop free new house
   written_house free clean w h house of = record { now = written_knows free w house of.now; left = written_leaves clean h house of }
 
-  left_so : (db : Trees) → MayBeWritten schema turns old db → (left : ShopView) → HoldNoOther db left → (s : State) (ks : List Kept) → HoldsWhileOpen head from old s ks → is_right s → IsSame left (committed changes shop.moment o s ks)
+  left_so : (db : Trees) → MayBeWritten schema turns old db → (left : ShopView) → HoldNoOther db left → (s : State) (ks : List Kept) → HoldsWhileOpen head from old s ks → is_right s → IsSame left (view_committed changes shop.moment o s ks)
   left_so db may left only s ks holds right =
       let it = holds may.was_open in
       let turned = may.turned it.known in
       let here : Holds db (change it.tables) = subst (λ d. Holds d (change it.tables)) (sym may.is) (turned.1.holds it.tables it.free it.held) in
-      only shop (change it.tables) (committed changes shop.moment o s ks) here (carried_here s ks it right) (typed_here s ks it)
+      only shop (change it.tables) (view_committed changes shop.moment o s ks) here (carried_here s ks it right) (typed_here s ks it)
 
-  pub leaves_or : Survives old new (MayBeWritten schema turns old) → (left : ShopView) → Leaves new left → Leaves old left ⊎ ((s : State) (ks : List Kept) → HoldsWhileOpen head from old s ks → is_right s → IsSame left (committed changes shop.moment o s ks))
+  pub leaves_or : Survives old new (MayBeWritten schema turns old) → (left : ShopView) → Leaves new left → Leaves old left ⊎ ((s : State) (ks : List Kept) → HoldsWhileOpen head from old s ks → is_right s → IsSame left (view_committed changes shop.moment o s ks))
   leaves_or h left l =
       let clean : HasCleanDisk old = let more = l.clean in omega (arith, h.clean) in
       elim (h.crash l.clean l.trees l.may) [
@@ -166,8 +166,8 @@ module _ (head shop : ShopRow) (changes : Changed) (counts : CountRows) (from : 
 
   -- of an open connection a crash leaves the last commit
   pub leaves_written : ((db : Trees) → IsTrue new.is_open → new.may_leave db → db ≡ new.committed.trees) → (free : ℕ) → IsWritten (turns free) old new → (left : ShopView) → Leaves new left → (s : State) (ks : List Kept) → HoldsWhileOpen head from old s ks → is_right s
-      → IsSame left (committed changes shop.moment o s ks)
+      → IsSame left (view_committed changes shop.moment o s ks)
   leaves_written law free w left l s ks holds right =
       let it = written_holds free w s ks holds right w.is_open in
       let db : l.trees ≡ new.now.trees = law l.trees w.is_open l.may ∙ sym (ap (λ (d : Database). d.trees) w.settled) in
-      l.only shop it.tables (committed changes shop.moment o s ks) (subst (λ d. Holds d it.tables) (sym db) it.held) it.stand it.typed
+      l.only shop it.tables (view_committed changes shop.moment o s ks) (subst (λ d. Holds d it.tables) (sym db) it.held) it.stand it.typed

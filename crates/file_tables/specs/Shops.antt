@@ -81,8 +81,8 @@ pub record Leaves (c : Connected) (left : ShopView) : Type 0 where
   pub only : HoldNoOther trees left
 
 -- the order of the answers doesn't matter
-pub reordered : (head : ShopRow) (next : ℕ) (c : Connected) (s : State) (ks js : List Kept) → HoldsWhileOpen head next c s ks → IsPermutation ks js → HoldsWhileOpen head next c s js
-reordered head next c s ks js held more is_open =
+pub holds_reordered : (head : ShopRow) (next : ℕ) (c : Connected) (s : State) (ks js : List Kept) → HoldsWhileOpen head next c s ks → IsPermutation ks js → HoldsWhileOpen head next c s js
+holds_reordered head next c s ks js held more is_open =
     let it = held is_open in
     let st = it.stand in
     record {

@@ -30,8 +30,8 @@ HasNoRoom (Some known) next = ⊥
 HasNoRoom None next = most_tokens < next
 
 -- the shop's row once the next token has come
-abbrev pub raised : ShopRow → ShopRow
-raised head = record head { next_token = head.next_token + 1 }
+abbrev pub token_raised : ShopRow → ShopRow
+token_raised head = record head { next_token = head.next_token + 1 }
 
 -- the next token, with this digest
 abbrev pub next_one : ShopRow → List ℕ → Token
@@ -39,14 +39,14 @@ next_one head digest = record { id = head.next_token; digest = digest }
 
 -- what the next token, with this digest, makes of a database
 abbrev pub AddsNext : ShopRow → List ℕ → Database → Database → Type 0
-AddsNext head digest = HasToken (raised head) (next_one head digest)
+AddsNext head digest = HasToken (token_raised head) (next_one head digest)
 
 -- the shop's row after a digest that has this number already, or none
 abbrev pub head_after : Option ℕ → ShopRow → ShopRow
 head_after (Some known) head = head
-head_after None head = raised head
+head_after None head = token_raised head
 
 -- and the tables: the next token, and the shop's row, where it has none
 abbrev pub tables_after : Option ℕ → ShopRow → List ℕ → Tables → Tables
 tables_after (Some known) head digest t = t
-tables_after None head digest t = token_added (raised head) (next_one head digest) t
+tables_after None head digest t = token_added (token_raised head) (next_one head digest) t

@@ -8,7 +8,7 @@ ghost use Rattle.file_schema.specs.Whole.{WritesAll, WritesNone};
 ghost use Rattle.file_tables.specs.Adding.{AddsToken};
 ghost use Rattle.file_tables.specs.declared.error.TokenError.TheVariants.{Full};
 ghost use Rattle.file_tables.specs.Whole.{LeavesMade};
-ghost use Rattle.file_tables.specs.Tokens.{most_tokens, IsNumbered, raised, AddsNext};
+ghost use Rattle.file_tables.specs.Tokens.{most_tokens, IsNumbered, token_raised, AddsNext};
 
 use crate::add::put_token;
 use crate::error::TokenError;
@@ -26,7 +26,7 @@ fn add_next<S: Alter>(tables: &mut SqlTables<S>, digest: &[u8; 32]) -> Result<u6
     ensures full_crash { most_tokens < tables.old.head.next_token
         → LeavesNoMore S.Store tables.old.connection tables.new.connection }
     ensures digest { IsDigest digest.now }
-    ensures head { OnOk result (tables.new.head ≡ raised tables.old.head) }
+    ensures head { OnOk result (tables.new.head ≡ token_raised tables.old.head) }
     ensures head_none { OnErr result (tables.new.head ≡ tables.old.head) }
     ensures next_row { tables.new.next_row ≡ tables.old.next_row }
     ensures all { WritesAll S.Store tables.old.connection tables.new.connection schema

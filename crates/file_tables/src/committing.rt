@@ -1,7 +1,7 @@
 //! What one commit writes.
 
 ghost use Rattle.file_schema.specs.Tables.{schema};
-ghost use Rattle.model_answers.specs.ShopView.{listed};
+ghost use Rattle.model_answers.specs.ShopView.{kept_listed};
 ghost use Rattle.file_tables.specs.Committed.{Commits};
 
 use crate::writes::write_all;
@@ -30,7 +30,7 @@ impl Writing<u64> for Commit<'_> {
     ghost over = { λ _. schema };
 
     ghost turns = { λ what. Commits what.shop.now what.changes.now what.counts.now what.from
-        (listed what.kept) what.at };
+        (kept_listed what.kept) what.at };
 
     fn write<S: Alter>(&self, tx: &mut Transaction<'_, S>) -> Result<u64, RowError> {
         write_all(

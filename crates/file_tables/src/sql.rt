@@ -4,10 +4,10 @@ ghost use Rattle.std.specs.Prelude.{◌≡◌};
 ghost use Rattle.std.specs.List.{AllByRecursion};
 ghost use Rattle.sqlite.specs.Held.{state};
 ghost use Rattle.sqlite.specs.State.{HasCleanDisk};
-ghost use Rattle.model_answers.specs.ShopView.{listed};
+ghost use Rattle.model_answers.specs.ShopView.{kept_listed};
 ghost use Rattle.file_meaning.specs.Typed.{IsTypedChange, IsTypedKept};
 ghost use Rattle.file_tables.specs.Refusals.{refusal_of};
-ghost use Rattle.file_tables.specs.Shops.{HoldsWhileOpen, IsOfHouse, Leaves, reordered};
+ghost use Rattle.file_tables.specs.Shops.{HoldsWhileOpen, IsOfHouse, Leaves, holds_reordered};
 
 use crate::answers::find_answer;
 use crate::committing::Commit;
@@ -68,7 +68,7 @@ fn refused(error: RowError) -> TablesError
 // What types promise of what is committed.
 fn types_known(changes: &Changes, kept: Option<&Kept>)
     ensures changes { AllByRecursion IsTypedChange changes.now.list }
-    ensures kept { AllByRecursion IsTypedKept (listed kept.entry) }
+    ensures kept { AllByRecursion IsTypedKept (kept_listed kept.entry) }
 {
     changes_known(changes.as_slice());
     answer_known(kept);
@@ -83,7 +83,7 @@ impl<S: Alter> Tables for SqlTables<S> {
 
     ghost may_leave = { λ t left. Leaves (state S.Store t.connection) left };
 
-    ghost reorders = { λ t s ks js held more. reordered _ _ _ s ks js held more };
+    ghost reorders = { λ t s ks js held more. holds_reordered _ _ _ s ks js held more };
 
     fn token_of(&mut self, digest: &[u8; 32]) -> Result<Option<u64>, TablesError> {
         match find_number(self.alloc, &mut self.connection, digest) {

@@ -20,7 +20,7 @@ use Rattle.sqlite.specs.Listing.{understood}
 use Rattle.sqlite.specs.State.{State, Executes}
 use Rattle.sqlite.proofs.Callers.{IsPlain, command_of}
 use Rattle.file_schema.specs.Tables.{schema}
-use Rattle.file_schema.specs.Parts.{HoldParts, shown, with_rows}
+use Rattle.file_schema.specs.Parts.{HoldParts, row_shown, with_rows}
 use Rattle.file_schema.specs.Shapes.{over, plainly}
 use Rattle.file_schema.proofs.Answered.{passes, answered}
 use Rattle.file_schema.specs.Plain.{IsPlainTable}
@@ -181,10 +181,10 @@ module _ {A : Type 0} (number : A → ℕ) where
 
 module _ (at : ℕ) (table : Table) (is : IsPlainTable schema at table) (sql : List ℕ) (plain : IsPlain (understood schema sql)) (old new : State) (inside : IsInside old) (limit : new.step_limit ≡ old.step_limit)
     {A : Type 0} (row : A → Row) (number : A → ℕ) (numbered : (a : A) → rowid (row a) ≡ Int (pos (number a))) (field : Tables → List A)
-    (held_at : (t : Tables) → Holds old.now.trees t → IsPermutation (map row (field t)) (map (shown schema table.tree) (old.now.trees table.tree)))
+    (held_at : (t : Tables) → Holds old.now.trees t → IsPermutation (map row (field t)) (map (row_shown schema table.tree) (old.now.trees table.tree)))
     (trees : (t : Tables) → map (λ t. t.tree) schema.tables ≡ map (λ p. p.tree) (parts t)) where
   -- DELETE .. WHERE tests: the rows that don't pass stay
-  pub removes_where : (tests : List Term) (params : Row) (gone : A → Bool) → ((r : Row) (w : A) → shown schema table.tree r ≡ row w → passes tests params r ≡ gone w)
+  pub removes_where : (tests : List Term) (params : Row) (gone : A → Bool) → ((r : Row) (w : A) → row_shown schema table.tree r ≡ row w → passes tests params r ≡ gone w)
       → command_of (understood schema sql) ≡ Delete at (plainly (over table.tree tests (col 1 0 ∷ []) [])) → (count : ℕ) → Executes sql params old new (Ok count)
       → (change : Tables → Tables) → ((t : Tables) → parts (change t) ≡ with_rows table.tree (λ _. map row (filter (λ w. not (gone w)) (field t))) (parts t)) → ChangesFit (λ t. AreApart number (field t)) change old new
   removes_where tests params gone passes_as command count h change same =
@@ -192,7 +192,7 @@ module _ (at : ℕ) (table : Table) (is : IsPlainTable schema at table) (sql : L
       let db : Database = record { schema = schema; trees = old.now.trees } in
       let tree = old.now.trees table.tree in
       let next = new.now.trees in
-      let show = shown schema table.tree in
+      let show = row_shown schema table.tree in
       let found : IsPermutation (map (λ (r : Row). rowid r ∷ []) (filter (passes tests params) tree)) did.0 = answered db table.tree tests (col 1 0 ∷ []) [] params did.0 did.1 in
       let left : next table.tree ≡ filter (λ r. not (list_any (λ id. has_rowid id r) (ids_of did.0))) tree = did.2.applied.rows ∙ without_each tree (ids_of did.0) in
       record {

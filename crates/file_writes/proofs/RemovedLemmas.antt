@@ -18,7 +18,7 @@ use Rattle.sqlite.specs.State.{State, Executes}
 use Rattle.sqlite.proofs.Callers.{IsPlain, command_of}
 use Rattle.model_answers.specs.KeptAnswers.{lasts}
 use Rattle.file_schema.specs.Tables.{schema, kept_table}
-use Rattle.file_schema.specs.Parts.{shown}
+use Rattle.file_schema.specs.Parts.{row_shown}
 use Rattle.file_schema.specs.Shapes.{over, plainly, by_owner}
 use Rattle.file_schema.proofs.Answered.{passes}
 use Rattle.file_schema.proofs.Generic.{asked}
@@ -62,7 +62,7 @@ forget_is = (refl, (refl, refl))
 abbrev gone : ℕ → KeptRow → Bool
 gone at w = not (lasts at w.kept.at)
 
-passes_past : (at : ℕ) → 86400 ≤ at → (r : Row) (w : KeptRow) → shown schema 24 r ≡ kept_row w → passes past_test (number (at - 86400) ∷ []) r ≡ gone at w
+passes_past : (at : ℕ) → 86400 ≤ at → (r : Row) (w : KeptRow) → row_shown schema 24 r ≡ kept_row w → passes past_test (number (at - 86400) ∷ []) r ≡ gone at w
 passes_past at late r w e =
     let since : column r 3 ≡ number w.kept.at = ap (λ (x : Row). column x 3) e in
     stays_true _ ∙ ap (λ v. is_true (binary (Compare Le Binary) v (number (at - 86400)))) since ∙ at_most (pos w.kept.at) (pos (at - 86400)) ∙ is_past at w.kept.at late

@@ -15,7 +15,7 @@ use Rattle.sqlite.specs.Listing.{understood}
 use Rattle.sqlite.specs.State.{State, Executes}
 use Rattle.sqlite.proofs.Callers.{IsPlain, command_of}
 use Rattle.file_schema.specs.Tables.{schema}
-use Rattle.file_schema.specs.Parts.{HoldParts, shown, with_rows, without}
+use Rattle.file_schema.specs.Parts.{HoldParts, row_shown, with_rows, without}
 use Rattle.file_schema.specs.Shapes.{over, plainly, equals, delete_keyed}
 use Rattle.file_schema.specs.Writes.{Edits}
 use Rattle.file_schema.specs.Plain.{IsPlainTable}
@@ -28,7 +28,7 @@ use Rattle.file_rows.specs.Changes.{IsInside, Changes}
 module _ (at : ℕ) (table : Table) (is : IsPlainTable schema at table) (sql : List ℕ) (plain : IsPlain (understood schema sql)) (old new : State) (inside : IsInside old) (limit : new.step_limit ≡ old.step_limit) where
   -- what an edit of the table's rows makes of all tables
   edited : (gone : List ℤ) (news : List Row) → Edits schema table gone news old new
-      → (turn : List Row → List Row) → ((t : Tables) → Holds old.now.trees t → (rows : List Row) → IsPermutation rows (map (shown schema table.tree) (old.now.trees table.tree)) → IsPermutation (turn rows) (map (shown schema table.tree) (new.now.trees table.tree)))
+      → (turn : List Row → List Row) → ((t : Tables) → Holds old.now.trees t → (rows : List Row) → IsPermutation rows (map (row_shown schema table.tree) (old.now.trees table.tree)) → IsPermutation (turn rows) (map (row_shown schema table.tree) (new.now.trees table.tree)))
       → (change : Tables → Tables) → ((t : Tables) → parts (change t) ≡ with_rows table.tree turn (parts t)) → Changes change old new
   edited gone news it turn turned change same =
       let db = old.now.trees in
@@ -44,18 +44,18 @@ module _ (at : ℕ) (table : Table) (is : IsPlainTable schema at table) (sql : L
 
   -- INSERT: the table has one row more
   pub adds_row : (terms : List Term) (width : ℕ) → command_of (understood schema sql) ≡ Insert at (Values terms width) → (params source : Row) → value_rows params width (length terms / width) terms ≡ source ∷ []
-      → (id : ℤ) (rest : Row) → cast_row table source ≡ Int id ∷ rest → (row : Row) → shown schema table.tree (Int id ∷ rest) ≡ row
+      → (id : ℤ) (rest : Row) → cast_row table source ≡ Int id ∷ rest → (row : Row) → row_shown schema table.tree (Int id ∷ rest) ≡ row
       → (change : Tables → Tables) → ((t : Tables) → parts (change t) ≡ with_rows table.tree (λ rows. row ∷ rows) (parts t))
       → (count : ℕ) → Executes sql params old new (Ok count) → Changes change old new
   adds_row terms width command params source sources id rest made row shows change same count h =
       let it = inserts_keyed schema at table is sql plain old new inside.known inside.inside limit terms width command params source sources id rest made count h in
       edited [] _ it.0 (λ rows. row ∷ rows)
-      (λ t held rows holds. row_added (shown schema table.tree) (Int id ∷ rest) row (old.now.trees table.tree) (new.now.trees table.tree) rows shows it.1 holds) change same
+      (λ t held rows holds. row_added (row_shown schema table.tree) (Int id ∷ rest) row (old.now.trees table.tree) (new.now.trees table.tree) rows shows it.1 holds) change same
 
   module _ (rows : Tables → List Row) (numbered : (t : Tables) → All (λ r. is_int (rowid r) ≡ true) (rows t))
-      (held_at : (t : Tables) → Holds old.now.trees t → IsPermutation (rows t) (map (shown schema table.tree) (old.now.trees table.tree))) where
+      (held_at : (t : Tables) → Holds old.now.trees t → IsPermutation (rows t) (map (row_shown schema table.tree) (old.now.trees table.tree))) where
     numbers : (t : Tables) → Holds old.now.trees t → AreNumbered (old.now.trees table.tree)
-    numbers t held = numbered_tree (shown schema table.tree) (λ r. refl) (old.now.trees table.tree) (rows t) (numbered t) (held_at t held)
+    numbers t held = numbered_tree (row_shown schema table.tree) (λ r. refl) (old.now.trees table.tree) (rows t) (numbered t) (held_at t held)
 
     -- DELETE .. WHERE id = ?1: the rows with another id stay
     pub removes_row : command_of (understood schema sql) ≡ delete_keyed at table.tree → (id count : ℕ) → Executes sql (Int (pos id) ∷ []) old new (Ok count)
@@ -65,13 +65,13 @@ module _ (at : ℕ) (table : Table) (is : IsPlainTable schema at table) (sql : L
         edited _ [] did.2 (without (pos id))
         (λ t held rows holds.
         let it = deletes_keyed schema at table is sql plain old new inside.known inside.inside limit (numbers t held) command (pos id) count h in
-        row_removed (shown schema table.tree) (pos id) (λ r. refl) (old.now.trees table.tree) (new.now.trees table.tree) rows it.2 holds)
+        row_removed (row_shown schema table.tree) (pos id) (λ r. refl) (old.now.trees table.tree) (new.now.trees table.tree) rows it.2 holds)
         change same
 
     module _ (project : List Term) (command : command_of (understood schema sql) ≡ Update at (plainly (over table.tree (equals (col 1 0) (col 0 0) ∷ []) project []))) where
       -- UPDATE .. WHERE id = ?1, whatever it counts: other tables stand, and this one is as it is told
       updates_row : (id : ℕ) (more : Row) (count : ℕ) → Executes sql (Int (pos id) ∷ more) old new (Ok count) → (turn : List Row → List Row)
-          → ((t : Tables) → Holds old.now.trees t → (rows : List Row) → IsPermutation rows (map (shown schema table.tree) (old.now.trees table.tree)) → IsPermutation (turn rows) (map (shown schema table.tree) (new.now.trees table.tree)))
+          → ((t : Tables) → Holds old.now.trees t → (rows : List Row) → IsPermutation rows (map (row_shown schema table.tree) (old.now.trees table.tree)) → IsPermutation (turn rows) (map (row_shown schema table.tree) (new.now.trees table.tree)))
           → (change : Tables → Tables) → ((t : Tables) → parts (change t) ≡ with_rows table.tree turn (parts t)) → Changes change old new
       updates_row id more count h turn turned change same =
           let did = updates schema at table is sql plain (Int (pos id) ∷ more) old new inside.known inside.inside limit (plainly (over table.tree (equals (col 1 0) (col 0 0) ∷ []) project [])) command count h in
@@ -80,13 +80,13 @@ module _ (at : ℕ) (table : Table) (is : IsPlainTable schema at table) (sql : L
       -- one row: it stands in the place of the one with its id
       pub puts_row : (id : ℕ) (more row : Row)
           → (source rest : Row) → ((r : Row) → eval_all project ((Int (pos id) ∷ more) ∷ r ∷ []) ≡ rowid r ∷ rowid r ∷ source) → cast_row table (Int (pos id) ∷ source) ≡ Int (pos id) ∷ rest
-          → shown schema table.tree (Int (pos id) ∷ rest) ≡ row → Executes sql (Int (pos id) ∷ more) old new (Ok 1)
+          → row_shown schema table.tree (Int (pos id) ∷ rest) ≡ row → Executes sql (Int (pos id) ∷ more) old new (Ok 1)
           → (change : Tables → Tables) → ((t : Tables) → parts (change t) ≡ with_rows table.tree (λ rows. row ∷ without (pos id) rows) (parts t)) → Changes change old new
       puts_row id more row source rest shape made shows h change same =
           updates_row id more 1 h (λ rows. row ∷ without (pos id) rows)
           (λ t held rows holds.
           let it = updates_keyed schema at table is sql plain old new inside.known inside.inside limit (numbers t held) project command (pos id) more rest source shape made h in
-          row_put (shown schema table.tree) (pos id) (λ r. refl) (Int (pos id) ∷ rest) row (old.now.trees table.tree) (new.now.trees table.tree) rows shows it.1 holds)
+          row_put (row_shown schema table.tree) (pos id) (λ r. refl) (Int (pos id) ∷ rest) row (old.now.trees table.tree) (new.now.trees table.tree) rows shows it.1 holds)
           change same
 
       -- no row: no row has the id
@@ -96,7 +96,7 @@ module _ (at : ℕ) (table : Table) (is : IsPlainTable schema at table) (sql : L
           updates_row id more 0 h (without (pos id))
           (λ t held rows holds.
           let it = misses_keyed schema at table is sql plain old new inside.known inside.inside limit (numbers t held) project command (pos id) more h in
-          row_removed (shown schema table.tree) (pos id) (λ r. refl) (old.now.trees table.tree) (new.now.trees table.tree) rows it.1 holds)
+          row_removed (row_shown schema table.tree) (pos id) (λ r. refl) (old.now.trees table.tree) (new.now.trees table.tree) rows it.1 holds)
           change same
 
 -- a change after another

@@ -16,7 +16,7 @@ use Rattle.sqlite.specs.State.{State, Executes}
 use Rattle.sqlite.proofs.Callers.{IsPlain, command_of}
 use Rattle.base_sorted.specs.Tables.{sum_at}
 use Rattle.file_schema.specs.Tables.{schema, vouchers_table}
-use Rattle.file_schema.specs.Parts.{shown, with_rows, without}
+use Rattle.file_schema.specs.Parts.{row_shown, with_rows, without}
 use Rattle.file_schema.specs.Shapes.{places, over, plainly, equals, delete_keyed}
 use Rattle.file_schema.specs.Plain.{IsPlainTable}
 use Rattle.file_schema.proofs.Parts.{all_numbered, rows_without}
@@ -125,7 +125,7 @@ module _ (old new : State) (at : IsInside old) (limit : new.step_limit ≡ old.s
   pub puts : (w : Voucher) (count : ℕ) → count ≡ 1 → Executes update_text (voucher_values w) old new (Ok count) → Changes (put_voucher w) old new
   puts w count one h =
       updates_part 6 vouchers_table table_is update_text update_is.1 old new at limit voucher_row key (λ r. refl) (λ t. t.vouchers) (λ t h. h.1.1.1.1.1.1.0) (λ t. refl) update_project update_is.0
-      w.id (values_behind w) (λ r. counted_in w (shown schema 8 r)) (λ r. refl) (λ (a : VoucherRow). record { voucher = head_of_voucher w; redeemed = a.redeemed })
+      w.id (values_behind w) (λ r. counted_in w (row_shown schema 8 r)) (λ r. refl) (λ (a : VoucherRow). record { voucher = head_of_voucher w; redeemed = a.redeemed })
       (λ a r same is.
       let row : VoucherRow = record { voucher = head_of_voucher w; redeemed = a.redeemed } in
       (behind row, ap (λ s. cast_row vouchers_table (number w.id ∷ counted_in w s)) same ∙ casts w.id row, refl))
@@ -135,10 +135,10 @@ module _ (old new : State) (at : IsInside old) (limit : new.step_limit ≡ old.s
   pub redeems : (c : VoucherCount) (count : ℕ) → count ≡ 1 → Executes redeem_text (number c.voucher ∷ number c.redeemed ∷ []) old new (Ok count) → Changes (set_redeemed c) old new
   redeems c count one h =
       updates_part 6 vouchers_table table_is redeem_text redeem_is.1 old new at limit voucher_row key (λ r. refl) (λ t. t.vouchers) (λ t h. h.1.1.1.1.1.1.0) (λ t. refl) redeem_project redeem_is.0
-      c.voucher (number c.redeemed ∷ []) (λ r. with_count c.redeemed (shown schema 8 r)) (λ r. refl) (λ (a : VoucherRow). record a { redeemed = c.redeemed })
+      c.voucher (number c.redeemed ∷ []) (λ r. with_count c.redeemed (row_shown schema 8 r)) (λ r. refl) (λ (a : VoucherRow). record a { redeemed = c.redeemed })
       (λ a r same is.
       let row = record a { redeemed = c.redeemed } in
-      (behind row, ap (λ s. cast_row vouchers_table (number c.voucher ∷ with_count c.redeemed s)) same ∙ casts c.voucher row, ap (λ (n : ℕ). shown schema 8 (number n ∷ behind row)) (sym is)))
+      (behind row, ap (λ s. cast_row vouchers_table (number c.voucher ∷ with_count c.redeemed s)) same ∙ casts c.voucher row, ap (λ (n : ℕ). row_shown schema 8 (number n ∷ behind row)) (sym is)))
       (subst (λ n. Executes redeem_text (number c.voucher ∷ number c.redeemed ∷ []) old new (Ok n)) one h)
       (set_redeemed c) (λ t a found. ap (λ (l : List VoucherRow). parts (record t { vouchers = map (λ (r : VoucherRow). record r { redeemed = c.redeemed }) l ++ without_id c.voucher t.vouchers })) found)
 

@@ -12,14 +12,14 @@ use Rattle.sqlite_rules.specs.Cast.{cast_row}
 use Rattle.sqlite.specs.Effect.{value_rows}
 use Rattle.file_schema.specs.Tables.{schema}
 use Rattle.file_schema.specs.Plain.{IsPlainTable}
-use Rattle.file_schema.specs.Parts.{shown, with_rows, without}
+use Rattle.file_schema.specs.Parts.{row_shown, with_rows, without}
 use Rattle.file_schema.specs.Shapes.{AsksFor, over, plainly, equals, delete_keyed}
 use Rattle.file_rows.specs.Tables.{Tables, parts, Holds}
 
 -- the plain table at this place of the schema shows these rows, each by its number
 pub record IsTableOf (at : ℕ) (table : Table) (rows : Tables → List Row) : Type 0 where
   pub plain : IsPlainTable schema at table
-  pub holds : (db : Trees) (t : Tables) → Holds db t → IsPermutation (rows t) (map (shown schema table.tree) (db table.tree))
+  pub holds : (db : Trees) (t : Tables) → Holds db t → IsPermutation (rows t) (map (row_shown schema table.tree) (db table.tree))
   pub numbered : (t : Tables) → All (λ r. is_int (rowid r) ≡ true) (rows t)
 
 -- INSERT puts a row of all its columns, UPDATE sets all of the row with its number, and DELETE takes the row of a number
@@ -35,7 +35,7 @@ pub record AreStatementsOf {A : Type 0} (row : A → Row) (key : A → ℕ) (wit
   pub behind : A → Row
   pub begins : (w : A) → (more : Row) × (row w ≡ Int (pos (key w)) ∷ more)
   pub stays : (w : A) → cast_row table (Int (pos (key w)) ∷ behind w) ≡ Int (pos (key w)) ∷ behind w
-  pub shows : (w : A) → shown schema table.tree (Int (pos (key w)) ∷ behind w) ≡ row w
+  pub shows : (w : A) → row_shown schema table.tree (Int (pos (key w)) ∷ behind w) ≡ row w
   -- INSERT
   pub terms : List Term
   pub width : ℕ

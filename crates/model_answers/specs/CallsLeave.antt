@@ -1,12 +1,12 @@
 -- What a call leaves of tables that hold rows and answers and know a house; of most it is said where the store has returned what was written.
 use Rattle.std.specs.Prelude.{◌≡◌, ℕ, List, Option}
 use Rattle.std.specs.Borrow.{Bor}
-use Rattle.model_rows.specs.Change.{Changed, applied}
+use Rattle.model_rows.specs.Change.{Changed, changes_applied}
 use Rattle.model_rows.specs.CountRows.{CountRows, counts_after}
 use Rattle.model_rows.specs.Lists.{State}
 use Rattle.model_answers.specs.declared.kept.Kept.{Kept}
 use Rattle.model_answers.specs.House.{House}
-use Rattle.model_answers.specs.ShopView.{ShopView, committed}
+use Rattle.model_answers.specs.ShopView.{ShopView, view_committed}
 
 -- this is so of each house that they knew before
 abbrev pub OfItsHouse : {T : Type 0} → (T → Type 0) → (T → House → Type 0) → T → T → (House → Type 0) → Type 0
@@ -31,4 +31,4 @@ MayLeaveNoMore may_leave old new = (left : ShopView) → may_leave new left → 
 -- this is so of what a commit makes of all rows and answers that the tables hold, where these are the rows' counts after its changes
 abbrev pub OfCommitted : {T : Type 0} → (T → State → List Kept → Type 0) → T → Changed → CountRows → ℕ → Option (Bor Kept) → (ShopView → Type 0) → Type 0
 OfCommitted holds tables changes counts at kept Holds =
-    (s : State) (ks : List Kept) → holds tables s ks → counts ≡ counts_after s (applied changes at s) → Holds (committed changes at kept s ks)
+    (s : State) (ks : List Kept) → holds tables s ks → counts ≡ counts_after s (changes_applied changes at s) → Holds (view_committed changes at kept s ks)

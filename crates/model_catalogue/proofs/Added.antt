@@ -17,7 +17,7 @@ use Rattle.model_catalogue.specs.Limits.{takes_row, takes_rows, most_rows, last_
 use Rattle.model_catalogue.specs.ItemAdded.{variation_rows, item_rows, item_added}
 use Rattle.model_catalogue.specs.ItemChanged.{patched_item, item_changed}
 use Rattle.model_catalogue.specs.VariationAdded.{variation_row, priced_variation, variation_added}
-use Rattle.model_catalogue.specs.Resized.{patched_quota, resized}
+use Rattle.model_catalogue.specs.Resized.{patched_quota, quota_resized}
 use Rattle.model_catalogue.specs.QuotaAdded.{quota_row, quota_added, quota_test, items_stand, variations_stand, variations_fit, items_fit}
 
 -- a row that a table takes has an id in range
@@ -93,7 +93,7 @@ pub record IsResized (id : ℕ) (patch : QuotaPatch) (lists : CatalogueLists) (r
   pub stood : quota_at id lists ≡ Some old
   pub is_row : patched_quota patch old ≡ row
 
-pub resized_is : (id : ℕ) (patch : QuotaPatch) (lists : CatalogueLists) (row : Quota) → resized id patch lists ≡ Ok row → IsResized id patch lists row
+pub resized_is : (id : ℕ) (patch : QuotaPatch) (lists : CatalogueLists) (row : Quota) → quota_resized id patch lists ≡ Ok row → IsResized id patch lists row
 resized_is id patch lists row h =
     let (old, stood, h1) = found _ _ _ h in
     record { old = old; stood = stood; is_row = gave_it (patched_quota patch old) row h1 }

@@ -56,15 +56,15 @@ product_of item variation lists = do
   product_in item variation lists row
 
 -- the variation's price where it has one, else the item's
-abbrev pub priced : ℕ → Option Variation → Option ℕ
-priced price None = None
-priced price (Some variation) = Some (unwrap_or variation.default_price price)
+abbrev pub price_of : ℕ → Option Variation → Option ℕ
+price_of price None = None
+price_of price (Some variation) = Some (unwrap_or variation.default_price price)
 
 -- the price of the item, or of the variation that is named; none where the item or the variation isn't there
 abbrev pub base_price_by : Option ℕ → Option Item → CatalogueLists → Option ℕ
 base_price_by variation None lists = None
 base_price_by None (Some item) lists = Some item.default_price
-base_price_by (Some id) (Some item) lists = priced item.default_price (variation_at id lists)
+base_price_by (Some id) (Some item) lists = price_of item.default_price (variation_at id lists)
 
 -- what a product costs without a voucher; none where its item or its variation isn't there
 abbrev pub base_price : Product → CatalogueLists → Option ℕ

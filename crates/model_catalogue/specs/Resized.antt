@@ -13,7 +13,7 @@ abbrev pub patched_quota : QuotaPatch → Quota → Quota
 patched_quota patch row = record row { size = unwrap_or patch.size row.size }
 
 -- the row as it is afterwards
-abbrev pub resized : ℕ → QuotaPatch → CatalogueLists → Result Quota CatalogueRefusal
-resized id patch lists = do
+abbrev pub quota_resized : ℕ → QuotaPatch → CatalogueLists → Result Quota CatalogueRefusal
+quota_resized id patch lists = do
   row ← ok_or (quota_at id lists) NoQuota
   Ok (patched_quota patch row)

@@ -20,7 +20,7 @@ abbrev pub page_rows : {T : Type 0} → ℕ → List T → List T
 page_rows number rows = take 50 (drop ((number - 1) * 50) rows)
 
 -- the page of that number, with each row as it is shown
-abbrev pub listed : {T : Type 0} → Resource → (T → Shown) → ℕ → List T → Reply
-listed resource show number rows =
+abbrev pub page_listed : {T : Type 0} → Resource → (T → Shown) → ℕ → List T → Reply
+page_listed resource show number rows =
     if is_page number (length rows) then Listed (record { resource = resource; number = number; count = length rows; rows = map show (page_rows number rows) })
     else Refused kinds.List NoPage

@@ -21,5 +21,5 @@ abbrev pub rows_of_order : Lists → Order → List ExportRow
 rows_of_order lists o = map (export_row lists o) (by_positionid (positions_of o.id lists))
 
 -- one line for each position: order by order, by number
-abbrev pub exported : Lists → List ExportRow
-exported lists = flat_map (rows_of_order lists) lists.orders
+abbrev pub rows_exported : Lists → List ExportRow
+rows_exported lists = flat_map (rows_of_order lists) lists.orders

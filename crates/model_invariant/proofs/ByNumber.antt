@@ -5,26 +5,26 @@ use Rattle.std.specs.List.{AllByRecursion, insert}
 use Rattle.std.proofs.lemmas.Bool.Decides.{nat_tests}
 use Rattle.std.proofs.lemmas.List.Sums.{sum_by-cons}
 use Rattle.model_rows.specs.declared.rows.OrderPos.{OrderPos}
-use Rattle.model_invariant.specs.Positions.{placed, place_in, by_positionid, CountFrom}
+use Rattle.model_invariant.specs.Positions.{position_placed, place_in, by_positionid, CountFrom}
 use Rattle.model_invariant.specs.Shown.{HaveOtherNumbers, AreEachOnce}
 use Rattle.model_rows.proofs.EachRow.{all_weaker}
 use Rattle.model_invariant.proofs.Apart.{AreApart}
 
 -- a position is placed behind so many
-pub placed_at : (p : OrderPos) (qs : List OrderPos) → insert qs (place_in p.positionid qs) p ≡ placed p qs
+pub placed_at : (p : OrderPos) (qs : List OrderPos) → insert qs (place_in p.positionid qs) p ≡ position_placed p qs
 placed_at p [] = refl
 placed_at p (q ∷ qs) = by_turn (placed_at p qs) (nat_le p.positionid q.positionid)
   where
-    by_turn : insert qs (place_in p.positionid qs) p ≡ placed p qs → (b : Bool) → insert (q ∷ qs) (if b then 0 else suc (place_in p.positionid qs)) p ≡ (if b then p ∷ q ∷ qs else q ∷ placed p qs)
+    by_turn : insert qs (place_in p.positionid qs) p ≡ position_placed p qs → (b : Bool) → insert (q ∷ qs) (if b then 0 else suc (place_in p.positionid qs)) p ≡ (if b then p ∷ q ∷ qs else q ∷ position_placed p qs)
     by_turn more true = refl
     by_turn more false = ap (λ rest. q ∷ rest) more
 
 -- there are as many
-placed_length : (p : OrderPos) (qs : List OrderPos) → length (placed p qs) ≡ suc (length qs)
+placed_length : (p : OrderPos) (qs : List OrderPos) → length (position_placed p qs) ≡ suc (length qs)
 placed_length p [] = refl
 placed_length p (q ∷ qs) = by_turn (placed_length p qs) (nat_le p.positionid q.positionid)
   where
-    by_turn : length (placed p qs) ≡ suc (length qs) → (b : Bool) → length (if b then p ∷ q ∷ qs else q ∷ placed p qs) ≡ suc (suc (length qs))
+    by_turn : length (position_placed p qs) ≡ suc (length qs) → (b : Bool) → length (if b then p ∷ q ∷ qs else q ∷ position_placed p qs) ≡ suc (suc (length qs))
     by_turn more true = refl
     by_turn more false = ap suc more
 
@@ -34,11 +34,11 @@ same_length (p ∷ ps) = placed_length p (by_positionid ps) ∙ ap suc (same_len
 
 -- what holds of all of them holds of each
 module _ (P : OrderPos → Type 0) where
-  pub all_placed : (p : OrderPos) (qs : List OrderPos) → AllByRecursion P (placed p qs) → P p × AllByRecursion P qs
+  pub all_placed : (p : OrderPos) (qs : List OrderPos) → AllByRecursion P (position_placed p qs) → P p × AllByRecursion P qs
   all_placed p [] h = (h.0, tt)
   all_placed p (q ∷ qs) h = by_turn (all_placed p qs) (nat_le p.positionid q.positionid) h
     where
-      by_turn : (AllByRecursion P (placed p qs) → P p × AllByRecursion P qs) → (b : Bool) → AllByRecursion P (if b then p ∷ q ∷ qs else q ∷ placed p qs) → P p × (P q × AllByRecursion P qs)
+      by_turn : (AllByRecursion P (position_placed p qs) → P p × AllByRecursion P qs) → (b : Bool) → AllByRecursion P (if b then p ∷ q ∷ qs else q ∷ position_placed p qs) → P p × (P q × AllByRecursion P qs)
       by_turn more true all = (all.0, all.1)
       by_turn more false all =
           let rest = more all.1 in
@@ -55,13 +55,13 @@ module _ {T : Type 0} (made : OrderPos → T) (test : T → Bool) where
   abbrev passes : T → ℕ
   passes x = cond (test x) 1 0
 
-  placed_count : (p : OrderPos) (qs : List OrderPos) → count_by test (map made (placed p qs)) ≡ passes (made p) + count_by test (map made qs)
+  placed_count : (p : OrderPos) (qs : List OrderPos) → count_by test (map made (position_placed p qs)) ≡ passes (made p) + count_by test (map made qs)
   placed_count p [] = sum_by-cons passes (made p) []
   placed_count p (q ∷ qs) = by_turn (placed_count p qs) (nat_le p.positionid q.positionid)
     where
-      by_turn : count_by test (map made (placed p qs)) ≡ passes (made p) + count_by test (map made qs) → (b : Bool) → count_by test (map made (if b then p ∷ q ∷ qs else q ∷ placed p qs)) ≡ passes (made p) + count_by test (made q ∷ map made qs)
+      by_turn : count_by test (map made (position_placed p qs)) ≡ passes (made p) + count_by test (map made qs) → (b : Bool) → count_by test (map made (if b then p ∷ q ∷ qs else q ∷ position_placed p qs)) ≡ passes (made p) + count_by test (made q ∷ map made qs)
       by_turn more true = sum_by-cons passes (made p) (made q ∷ map made qs)
-      by_turn more false = omega (arith, more, sum_by-cons passes (made q) (map made (placed p qs)), sum_by-cons passes (made q) (map made qs))
+      by_turn more false = omega (arith, more, sum_by-cons passes (made q) (map made (position_placed p qs)), sum_by-cons passes (made q) (map made qs))
 
   pub sorted_count : (ps : List OrderPos) → count_by test (map made (by_positionid ps)) ≡ count_by test (map made ps)
   sorted_count [] = refl
@@ -89,11 +89,11 @@ counted_small n ps h = below n (n + length ps) ps (omega arith) h
     below m top (q ∷ qs) le c = (omega (arith, c.0, le), below (m + 1) top qs (omega (arith, le)) c.1)
 
 -- those that are apart in one order are in the other
-placed_apart : (p : OrderPos) (qs : List OrderPos) → AreApart same_number (placed p qs) → AllByRecursion (λ q. same_number p q ≡ false) qs × AreApart same_number qs
+placed_apart : (p : OrderPos) (qs : List OrderPos) → AreApart same_number (position_placed p qs) → AllByRecursion (λ q. same_number p q ≡ false) qs × AreApart same_number qs
 placed_apart p [] h = (tt, tt)
 placed_apart p (q ∷ qs) h = by_turn (placed_apart p qs) (nat_le p.positionid q.positionid) h
   where
-    by_turn : (AreApart same_number (placed p qs) → AllByRecursion (λ r. same_number p r ≡ false) qs × AreApart same_number qs) → (b : Bool) → AreApart same_number (if b then p ∷ q ∷ qs else q ∷ placed p qs)
+    by_turn : (AreApart same_number (position_placed p qs) → AllByRecursion (λ r. same_number p r ≡ false) qs × AreApart same_number qs) → (b : Bool) → AreApart same_number (if b then p ∷ q ∷ qs else q ∷ position_placed p qs)
         → ((same_number p q ≡ false) × AllByRecursion (λ r. same_number p r ≡ false) qs) × (AllByRecursion (λ r. same_number q r ≡ false) qs × AreApart same_number qs)
     by_turn more true apart = (apart.0, apart.1)
     by_turn more false apart =
@@ -110,23 +110,23 @@ unsorted_apart (p ∷ ps) h =
 -- those that count on are by number already
 pub counted_is : (n : ℕ) (ps : List OrderPos) → CountFrom n ps → by_positionid ps ≡ ps
 counted_is n [] h = refl
-counted_is n (p ∷ ps) h = ap (placed p) (counted_is (n + 1) ps h.1) ∙ in_front ps h.1
+counted_is n (p ∷ ps) h = ap (position_placed p) (counted_is (n + 1) ps h.1) ∙ in_front ps h.1
   where
-    in_front : (qs : List OrderPos) → CountFrom (n + 1) qs → placed p qs ≡ p ∷ qs
+    in_front : (qs : List OrderPos) → CountFrom (n + 1) qs → position_placed p qs ≡ p ∷ qs
     in_front [] c = refl
     in_front (q ∷ qs) c = by_turn (nat_le p.positionid q.positionid) (grind (arith, nat_tests, h.0, c.0))
       where
-        by_turn : (b : Bool) → b ≡ true → (if b then p ∷ q ∷ qs else q ∷ placed p qs) ≡ p ∷ q ∷ qs
+        by_turn : (b : Bool) → b ≡ true → (if b then p ∷ q ∷ qs else q ∷ position_placed p qs) ≡ p ∷ q ∷ qs
         by_turn true e = refl
         by_turn false e = absurd (cc)
 
 -- what holds of each holds by number
 module _ (P : OrderPos → Type 0) where
-  placed_all : (p : OrderPos) (qs : List OrderPos) → P p → AllByRecursion P qs → AllByRecursion P (placed p qs)
+  placed_all : (p : OrderPos) (qs : List OrderPos) → P p → AllByRecursion P qs → AllByRecursion P (position_placed p qs)
   placed_all p [] own all = (own, tt)
   placed_all p (q ∷ qs) own all = by_turn (placed_all p qs own all.1) (nat_le p.positionid q.positionid)
     where
-      by_turn : AllByRecursion P (placed p qs) → (b : Bool) → AllByRecursion P (if b then p ∷ q ∷ qs else q ∷ placed p qs)
+      by_turn : AllByRecursion P (position_placed p qs) → (b : Bool) → AllByRecursion P (if b then p ∷ q ∷ qs else q ∷ position_placed p qs)
       by_turn more true = (own, all)
       by_turn more false = (all.0, more)
 
@@ -140,11 +140,11 @@ RiseFrom n [] = Unit {0}
 RiseFrom n (p ∷ ps) = (n ≤ p.positionid) × RiseFrom (p.positionid + 1) ps
 
 -- those of which no two are one rise by number
-placed_rises : (n : ℕ) (p : OrderPos) (qs : List OrderPos) → n ≤ p.positionid → RiseFrom n qs → AllByRecursion (λ q. same_number p q ≡ false) qs → RiseFrom n (placed p qs)
+placed_rises : (n : ℕ) (p : OrderPos) (qs : List OrderPos) → n ≤ p.positionid → RiseFrom n qs → AllByRecursion (λ q. same_number p q ≡ false) qs → RiseFrom n (position_placed p qs)
 placed_rises n p [] from rise apart = (from, tt)
 placed_rises n p (q ∷ qs) from rise apart = by_turn (λ low. placed_rises (q.positionid + 1) p qs low rise.1 apart.1) (nat_le p.positionid q.positionid) refl
   where
-    by_turn : (q.positionid + 1 ≤ p.positionid → RiseFrom (q.positionid + 1) (placed p qs)) → (b : Bool) → nat_le p.positionid q.positionid ≡ b → RiseFrom n (if b then p ∷ q ∷ qs else q ∷ placed p qs)
+    by_turn : (q.positionid + 1 ≤ p.positionid → RiseFrom (q.positionid + 1) (position_placed p qs)) → (b : Bool) → nat_le p.positionid q.positionid ≡ b → RiseFrom n (if b then p ∷ q ∷ qs else q ∷ position_placed p qs)
     by_turn more true e = (from, (grind (arith, nat_tests, e, apart.0), rise.1))
     by_turn more false e = (rise.0, more (grind (arith, nat_tests, e)))
 

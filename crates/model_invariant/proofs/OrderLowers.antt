@@ -200,7 +200,8 @@ module _ (lists : Lists) (at : ℕ) (quota : Quota) (closed : quota.release_afte
 
 -- cancelling or expiring an order, its payment, and taking the payment back: no move but a revival raises the usage of a quota that
 -- stands, unless it takes places again that exits set free
-pub moved_order_lowers : (state : State) (row old : Order) (quota : Quota) → order_at row.id state.lists ≡ Some old → quota_at quota.id state.lists.catalogue ≡ Some quota → (is_in_force row.status ≡ false) ⊎ (is_in_force old.status ≡ true) → refills state.lists state.moment quota old row.status ≡ false → IsSound state → total (usage_of (after_change (PutOrder row) state.lists) state.moment quota) ≤ total (usage_of state.lists state.moment quota)
+pub moved_order_lowers : (state : State) (row old : Order) (quota : Quota) → order_at row.id state.lists ≡ Some old → quota_at quota.id state.lists.catalogue ≡ Some quota → (is_in_force row.status ≡ false) ⊎ (is_in_force old.status ≡ true)
+    → refills state.lists state.moment quota old row.status ≡ false → IsSound state → total (usage_of (after_change (PutOrder row) state.lists) state.moment quota) ≤ total (usage_of state.lists state.moment quota)
 moved_order_lowers state row old quota stood stands which again h = by_which which
   where
     lists : Lists
@@ -217,11 +218,15 @@ moved_order_lowers state row old quota stood stands which again h = by_which whi
     none_again [] e = tt
     none_again (p ∷ ps) e = by_own (eqb row.id p.order) refl e (none_again ps)
       where
-        by_own : (b : Bool) → eqb row.id p.order ≡ b → list_any (blocks_again lists state.moment quota) (cond b (p ∷ filter (λ q. eqb row.id q.order) ps) (filter (λ q. eqb row.id q.order) ps)) ≡ false → (list_any (blocks_again lists state.moment quota) (filter (λ q. eqb row.id q.order) ps) ≡ false → AllByRecursion (λ q. eqb row.id q.order ≡ true → blocks_again lists state.moment quota q ≡ false) ps) → AllByRecursion (λ q. eqb row.id q.order ≡ true → blocks_again lists state.moment quota q ≡ false) (p ∷ ps)
+        by_own : (b : Bool) → eqb row.id p.order ≡ b → list_any (blocks_again lists state.moment quota) (cond b (p ∷ filter (λ q. eqb row.id q.order) ps) (filter (λ q. eqb row.id q.order) ps)) ≡ false
+            → (list_any (blocks_again lists state.moment quota) (filter (λ q. eqb row.id q.order) ps) ≡ false → AllByRecursion (λ q. eqb row.id q.order ≡ true → blocks_again lists state.moment quota q ≡ false) ps)
+            → AllByRecursion (λ q. eqb row.id q.order ≡ true → blocks_again lists state.moment quota q ≡ false) (p ∷ ps)
         by_own true is e more = (λ own. neither_first (blocks_again lists state.moment quota p) (list_any (blocks_again lists state.moment quota) (filter (λ q. eqb row.id q.order) ps)) e, more (neither_second (blocks_again lists state.moment quota p) (list_any (blocks_again lists state.moment quota) (filter (λ q. eqb row.id q.order) ps)) e))
         by_own false is e more = (λ own. absurd (cc (is, own)), more e)
 
-    both_given : (paid : Bool) → (ps : List OrderPos) → (paid ≡ true → AllByRecursion (λ p. eqb row.id p.order ≡ true → blocks_again lists state.moment quota p ≡ false) ps) → AllByRecursion (λ p. is_covered_by lists state.moment quota p.voucher ≡ true → is_in quota p.product ≡ true) ps → AllByRecursion (λ p. (is_covered_by lists state.moment quota p.voucher ≡ true → is_in quota p.product ≡ true) × (eqb row.id p.order ≡ true → (paid && (is_released lists quota p && is_covered_by lists state.moment quota p.voucher)) ≡ false)) ps
+    both_given : (paid : Bool) → (ps : List OrderPos) → (paid ≡ true → AllByRecursion (λ p. eqb row.id p.order ≡ true → blocks_again lists state.moment quota p ≡ false) ps)
+        → AllByRecursion (λ p. is_covered_by lists state.moment quota p.voucher ≡ true → is_in quota p.product ≡ true) ps
+        → AllByRecursion (λ p. (is_covered_by lists state.moment quota p.voucher ≡ true → is_in quota p.product ≡ true) × (eqb row.id p.order ≡ true → (paid && (is_released lists quota p && is_covered_by lists state.moment quota p.voucher)) ≡ false)) ps
     both_given paid [] k i = tt
     both_given true (p ∷ ps) k i = ((i.0, (k refl).0), both_given true ps (λ e. (k refl).1) i.1)
     both_given false (p ∷ ps) k i = ((i.0, λ own. refl), both_given false ps (λ e. absurd (cc (e))) i.1)

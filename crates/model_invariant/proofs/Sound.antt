@@ -18,7 +18,7 @@ use Rattle.model_rows.specs.declared.rows.Voucher.{Voucher}
 use Rattle.model_rows.specs.declared.changes.Change.TheVariants.{PutItem, PutVariation, PutQuota, PutVoucher, DropVoucher, DropCart}
 use Rattle.model_rows.specs.Conditions.{is_live_cart}
 use Rattle.model_rows.specs.Lists.{Lists, State, empty, voucher_at}
-use Rattle.model_rows.specs.Change.{after_change, after_all, changed}
+use Rattle.model_rows.specs.Change.{after_change, after_all, change_applied}
 use Rattle.model_rows.specs.Usage.{redeemed}
 use Rattle.model_rows.specs.Headroom.{held, HasHeadroom, AllHaveHeadroom, has_use}
 use Rattle.model_rows.specs.Budgets.{HasBudget}
@@ -135,7 +135,7 @@ sound_cart state row e takes product left fits limits h = record {
 }
 
 -- a cart position that goes
-pub sound_drop_cart : (state : State) (id : ℕ) → IsSound state → IsSound (changed (DropCart id) state)
+pub sound_drop_cart : (state : State) (id : ℕ) → IsSound state → IsSound (change_applied (DropCart id) state)
 sound_drop_cart state id h = record {
   range = h.range;
   few = set_carts h.few (few_dropped (λ r. r.id) most_rows id state.lists.carts h.few.carts);
@@ -222,7 +222,8 @@ put_variations (row ∷ rows) state takes from of limits h =
     subst (λ (n : ℕ). IsSound (record state { lists = after_all (map PutVariation rows) (after_change (PutVariation row) state.lists); next = record state.next { variation = n } })) count more
 
 -- a new item with its variations, whose ids count on
-pub sound_item : (state : State) (rows : ItemRows) → rows.item.id ≡ state.next.item → Takes state.next.item state.lists.catalogue.items → TakesSome (length rows.variations) state.next.variation state.lists.catalogue.variations → AreFrom state.next.variation rows.variations → AreOf rows.item rows.variations → IsLimitedItem rows.item → AllByRecursion IsLimitedVariation rows.variations → IsSound state → IsSound (with_item rows state)
+pub sound_item : (state : State) (rows : ItemRows) → rows.item.id ≡ state.next.item → Takes state.next.item state.lists.catalogue.items → TakesSome (length rows.variations) state.next.variation state.lists.catalogue.variations
+    → AreFrom state.next.variation rows.variations → AreOf rows.item rows.variations → IsLimitedItem rows.item → AllByRecursion IsLimitedVariation rows.variations → IsSound state → IsSound (with_item rows state)
 sound_item state rows e takes takes_more from of limits each h = put_variations rows.variations (record state { lists = after_change (PutItem rows.item) state.lists; next = record state.next { item = state.next.item + 1 } }) takes_more from (put_of_varied rows.item state.lists.catalogue.items rows.variations of) each (put_item state rows.item e takes limits h)
 
 -- those that are made with an item do
@@ -231,7 +232,7 @@ variation_rows_count [] item first = tt
 variation_rows_count (variation ∷ variations) item first = (refl, variation_rows_count variations item (first + 1))
 
 -- an item that is changed, and sold as before
-pub sound_changed_item : (state : State) (row old : Item) → item_at row.id state.lists.catalogue ≡ Some old → row.varied ≡ old.varied → IsLimitedItem row → IsSound state → IsSound (changed (PutItem row) state)
+pub sound_changed_item : (state : State) (row old : Item) → item_at row.id state.lists.catalogue ≡ Some old → row.varied ≡ old.varied → IsLimitedItem row → IsSound state → IsSound (change_applied (PutItem row) state)
 sound_changed_item state row old e varied limits h = record {
   range = h.range;
   few = set_items h.few (few_changed (λ r. r.id) most_rows row old state.lists.catalogue.items h.ids.items.in_order e h.few.items);
@@ -291,7 +292,7 @@ sound_quota state row e takes its limits h = record {
         absurd (cc)
 
 -- a quota that gets another size
-pub sound_resized : (state : State) (row old : Quota) → quota_at row.id state.lists.catalogue ≡ Some old → row.items ≡ old.items → row.variations ≡ old.variations → IsLimitedQuota row → IsSound state → IsSound (changed (PutQuota row) state)
+pub sound_resized : (state : State) (row old : Quota) → quota_at row.id state.lists.catalogue ≡ Some old → row.items ≡ old.items → row.variations ≡ old.variations → IsLimitedQuota row → IsSound state → IsSound (change_applied (PutQuota row) state)
 sound_resized state row old e items variations limits h = record {
   range = h.range;
   few = set_quotas h.few (few_changed (λ r. r.id) most_rows row old state.lists.catalogue.quotas h.ids.quotas.in_order e h.few.quotas);
@@ -338,7 +339,9 @@ module _ (lists : Lists) (row : Voucher) where
   headroom_voucher at room h = all-with_row (λ r. r.id) (HasHeadroom at lists) row lists.vouchers room h
 
 -- a new voucher whose code no other one has, that names what stands, and that may block if it does
-pub sound_voucher : (state : State) (row : Voucher) → row.id ≡ state.next.voucher → Takes state.next.voucher state.lists.vouchers → HasTarget state.lists.catalogue row → HasItsCode row state.lists → redeemed row.id state.lists + held state.moment row.id state.lists ≤ row.max_usages → HasBudget state.lists row → is_whole state.lists.catalogue.items row ≡ true → IsLimitedVoucher row → IsSound state → IsSound (with_voucher row state)
+pub sound_voucher : (state : State) (row : Voucher) → row.id ≡ state.next.voucher → Takes state.next.voucher state.lists.vouchers → HasTarget state.lists.catalogue row → HasItsCode row state.lists
+    → redeemed row.id state.lists + held state.moment row.id state.lists ≤ row.max_usages → HasBudget state.lists row → is_whole state.lists.catalogue.items row ≡ true → IsLimitedVoucher row → IsSound state
+    → IsSound (with_voucher row state)
 sound_voucher state row e takes target code room budget whole limits h = record {
   range = record { moment = h.range.moment; next_ids = set_vouchers h.range.next_ids (next_put last_id state.next.voucher takes.1 h.range.next_ids.vouchers) };
   few = set_vouchers h.few (few_put (λ r. r.id) most_rows row state.lists.vouchers takes.0);
@@ -371,8 +374,10 @@ pub sound_new_voucher : (state : State) (row : Voucher) → row.id ≡ state.nex
 sound_new_voucher state row e takes target code whole limits h = sound_voucher state row e takes target code (rw e (fresh_headroom state.lists state.next.voucher h.ids.vouchers state.moment row.max_usages h.fit)) (rw e (fresh_budget state.lists state.next.voucher h.ids.vouchers row.budget h.fit)) whole limits h
 
 -- a voucher that is changed: it names what stands, its code is its own, it has headroom, and it may block if it does
-module _ (state : State) (row old : Voucher) (stands : voucher_at row.id state.lists ≡ Some old) (target : HasTarget state.lists.catalogue row) (code : HasItsCode row state.lists) (room : redeemed row.id state.lists + held state.moment row.id state.lists ≤ row.max_usages) (budget : HasBudget state.lists row) (whole : is_whole state.lists.catalogue.items row ≡ true) (limits : IsLimitedVoucher row) (h : IsSound state) where
-  by_fit : AllFit (after_change (PutVoucher row) state.lists) → IsSound (changed (PutVoucher row) state)
+module _ (state : State) (row old : Voucher) (stands : voucher_at row.id state.lists ≡ Some old) (target : HasTarget state.lists.catalogue row) (code : HasItsCode row state.lists)
+    (room : redeemed row.id state.lists + held state.moment row.id state.lists ≤ row.max_usages) (budget : HasBudget state.lists row) (whole : is_whole state.lists.catalogue.items row ≡ true) (limits : IsLimitedVoucher row)
+    (h : IsSound state) where
+  by_fit : AllFit (after_change (PutVoucher row) state.lists) → IsSound (change_applied (PutVoucher row) state)
   by_fit fit = record {
     range = h.range;
     few = set_vouchers h.few (few_changed (λ r. r.id) most_rows row old state.lists.vouchers h.ids.vouchers.in_order stands h.few.vouchers);
@@ -393,11 +398,11 @@ module _ (state : State) (row old : Voucher) (stands : voucher_at row.id state.l
   }
 
   -- where nothing names it
-  pub sound_unused_voucher : is_used row.id state.lists ≡ false → IsSound (changed (PutVoucher row) state)
+  pub sound_unused_voucher : is_used row.id state.lists ≡ false → IsSound (change_applied (PutVoucher row) state)
   sound_unused_voucher unused = by_fit (fit_unused state.lists row unused h.fit)
 
   -- where it is for the same products as before
-  pub sound_alike_voucher : row.item ≡ old.item → row.variation ≡ old.variation → row.quota ≡ old.quota → IsSound (changed (PutVoucher row) state)
+  pub sound_alike_voucher : row.item ≡ old.item → row.variation ≡ old.variation → row.quota ≡ old.quota → IsSound (change_applied (PutVoucher row) state)
   sound_alike_voucher item variation quota = by_fit (fit_alike state.lists row same h.fit)
     where
       by_quota : (product : Product) (q : Option ℕ) → fits_by state.lists.catalogue old product q ≡ true → fits_by state.lists.catalogue row product q ≡ true
@@ -408,12 +413,12 @@ module _ (state : State) (row old : Voucher) (stands : voucher_at row.id state.l
       same product fit = rw quota (by_quota product old.quota (ap (fits_if state.lists.catalogue product) (sym stands) ∙ fit))
 
   -- either of them
-  pub sound_changed_voucher : (is_used row.id state.lists ≡ false) ⊎ ((row.item ≡ old.item) × ((row.variation ≡ old.variation) × (row.quota ≡ old.quota))) → IsSound (changed (PutVoucher row) state)
+  pub sound_changed_voucher : (is_used row.id state.lists ≡ false) ⊎ ((row.item ≡ old.item) × ((row.variation ≡ old.variation) × (row.quota ≡ old.quota))) → IsSound (change_applied (PutVoucher row) state)
   sound_changed_voucher (inl unused) = sound_unused_voucher unused
   sound_changed_voucher (inr same) = sound_alike_voucher same.0 same.1.0 same.1.1
 
 -- a voucher that nothing names goes
-pub sound_drop_voucher : (state : State) (id : ℕ) → is_used id state.lists ≡ false → IsSound state → IsSound (changed (DropVoucher id) state)
+pub sound_drop_voucher : (state : State) (id : ℕ) → is_used id state.lists ≡ false → IsSound state → IsSound (change_applied (DropVoucher id) state)
 sound_drop_voucher state id unused h = record {
   range = h.range;
   few = set_vouchers h.few (few_dropped (λ r. r.id) most_rows id state.lists.vouchers h.few.vouchers);

@@ -8,7 +8,7 @@ use Rattle.model_rows.specs.declared.rows.OrderPos.{OrderPos}
 use Rattle.model_rows.specs.declared.changes.Change.TheVariants.{PutOrder, PutPosition, DropCart}
 use Rattle.model_rows.specs.Conditions.{is_in_force}
 use Rattle.model_rows.specs.Lists.{Lists, State, order_at, positions_of}
-use Rattle.model_rows.specs.Change.{after_change, changed, without_carts}
+use Rattle.model_rows.specs.Change.{after_change, change_applied, without_carts}
 use Rattle.model_rows.specs.Usage.{stands_as}
 use Rattle.model_rows.specs.Headroom.{AllHaveHeadroom, has_use, have_room}
 use Rattle.model_rows.specs.Budgets.{AllWithinBudget, are_within}
@@ -67,7 +67,9 @@ sound_order state row e takes limits h = record {
 
 -- a new position of an order that stands: with a secret of its own, fit, of a product, and with a use left where its order is
 -- in force
-pub sound_position : (state : State) (row : OrderPos) → row.id ≡ state.next.position → Takes state.next.position state.lists.positions → IsOfOrder state.lists.orders row → is_fit state.lists row.product row.voucher ≡ true → IsProduct state.lists.catalogue row.product → (not (stands_as is_in_force (order_at row.order state.lists)) || has_use state.moment state.lists row.voucher) ≡ true → IsLimitedPosition row → IsSoundSoFar state → IsSoundSoFar (with_position row state)
+pub sound_position : (state : State) (row : OrderPos) → row.id ≡ state.next.position → Takes state.next.position state.lists.positions → IsOfOrder state.lists.orders row → is_fit state.lists row.product row.voucher ≡ true
+    → IsProduct state.lists.catalogue row.product → (not (stands_as is_in_force (order_at row.order state.lists)) || has_use state.moment state.lists row.voucher) ≡ true → IsLimitedPosition row → IsSoundSoFar state
+    → IsSoundSoFar (with_position row state)
 sound_position state row e takes of_order fits product left limits h = record {
   range = record { moment = h.range.moment; next_ids = set_positions h.range.next_ids (next_put last_id state.next.position takes.1 h.range.next_ids.positions) };
   few = set_positions h.few (few_put (λ r. r.id) most_rows row state.lists.positions takes.0);
@@ -115,7 +117,7 @@ sound_whole state whole budgets h = record {
 
 -- an order that is changed
 module _ (state : State) (row old : Order) (stands : order_at row.id state.lists ≡ Some old) (limits : IsLimitedOrder row) (h : IsSound state) where
-  by_headroom : AllHaveHeadroom state.moment (after_change (PutOrder row) state.lists) → AllWithinBudget (after_change (PutOrder row) state.lists) → IsSound (changed (PutOrder row) state)
+  by_headroom : AllHaveHeadroom state.moment (after_change (PutOrder row) state.lists) → AllWithinBudget (after_change (PutOrder row) state.lists) → IsSound (change_applied (PutOrder row) state)
   by_headroom headroom budgets = record {
     range = h.range;
     few = set_orders h.few (few_changed (λ r. r.id) last_order row old state.lists.orders h.ids.orders.in_order stands h.few.orders);
@@ -142,19 +144,19 @@ module _ (state : State) (row old : Order) (stands : order_at row.id state.lists
   was = ap (stands_as is_in_force) stands
 
   -- one that isn't in force afterwards
-  pub sound_ended_order : is_in_force row.status ≡ false → IsSound (changed (PutOrder row) state)
+  pub sound_ended_order : is_in_force row.status ≡ false → IsSound (change_applied (PutOrder row) state)
   sound_ended_order ended = by_headroom (headroom_kept_order row state.lists state.moment (λ force. absurd (cc (ended, force))) h.headroom) (kept_order row state.lists (λ force. absurd (cc (ended, force))) h.budgets)
 
   -- one that was in force before
-  pub sound_kept_order : is_in_force old.status ≡ true → IsSound (changed (PutOrder row) state)
+  pub sound_kept_order : is_in_force old.status ≡ true → IsSound (change_applied (PutOrder row) state)
   sound_kept_order kept = by_headroom (headroom_kept_order row state.lists state.moment (λ force. was ∙ kept) h.headroom) (kept_order row state.lists (λ force. was ∙ kept) h.budgets)
 
   -- one that comes back, where the vouchers of its positions have room for them, and budget
-  pub sound_revived_order : have_room state.moment (after_change (PutOrder row) state.lists) (positions_of row.id state.lists) ≡ true → are_within (after_change (PutOrder row) state.lists) (positions_of row.id state.lists) ≡ true → IsSound (changed (PutOrder row) state)
+  pub sound_revived_order : have_room state.moment (after_change (PutOrder row) state.lists) (positions_of row.id state.lists) ≡ true → are_within (after_change (PutOrder row) state.lists) (positions_of row.id state.lists) ≡ true → IsSound (change_applied (PutOrder row) state)
   sound_revived_order room within = by_headroom (headroom_revived_order row state.lists state.moment h.ids.vouchers.in_order room h.headroom) (tested_order row state.lists h.ids.vouchers.in_order within h.budgets)
 
   -- any of them
-  pub sound_changed_order : (is_in_force row.status ≡ false) ⊎ ((is_in_force old.status ≡ true) ⊎ ((have_room state.moment (after_change (PutOrder row) state.lists) (positions_of row.id state.lists) ≡ true) × (are_within (after_change (PutOrder row) state.lists) (positions_of row.id state.lists) ≡ true))) → IsSound (changed (PutOrder row) state)
+  pub sound_changed_order : (is_in_force row.status ≡ false) ⊎ ((is_in_force old.status ≡ true) ⊎ ((have_room state.moment (after_change (PutOrder row) state.lists) (positions_of row.id state.lists) ≡ true) × (are_within (after_change (PutOrder row) state.lists) (positions_of row.id state.lists) ≡ true))) → IsSound (change_applied (PutOrder row) state)
   sound_changed_order (inl ended) = sound_ended_order ended
   sound_changed_order (inr (inl kept)) = sound_kept_order kept
   sound_changed_order (inr (inr tests)) = sound_revived_order tests.0 tests.1
@@ -162,4 +164,4 @@ module _ (state : State) (row old : Order) (stands : order_at row.id state.lists
 -- cart positions that go one after another
 pub sound_drop_carts : (ids : List ℕ) (state : State) → IsSound state → IsSound (without_carts ids state)
 sound_drop_carts [] state h = h
-sound_drop_carts (id ∷ ids) state h = sound_drop_carts ids (changed (DropCart id) state) (sound_drop_cart state id h)
+sound_drop_carts (id ∷ ids) state h = sound_drop_carts ids (change_applied (DropCart id) state) (sound_drop_cart state id h)

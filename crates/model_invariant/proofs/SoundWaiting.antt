@@ -3,7 +3,7 @@ use Rattle.std.proofs.Common.{◌≡◌, ℕ, true, Some, refl}
 use Rattle.model_catalogue.specs.Limits.{most_rows, last_id}
 use Rattle.model_rows.specs.declared.rows.Waiting.{Waiting}
 use Rattle.model_rows.specs.declared.changes.Change.TheVariants.{PutWaiting, DropWaiting}
-use Rattle.model_rows.specs.Change.{after_change, changed}
+use Rattle.model_rows.specs.Change.{after_change, change_applied}
 use Rattle.model_rows.specs.Fits.{AllFit}
 use Rattle.model_rows.specs.Lists.{Lists, State, waiting_at}
 use Rattle.model_rows.specs.Numbered.{with_waiting}
@@ -55,7 +55,7 @@ sound_waiting state row e takes product stands limits h = record {
 }
 
 -- an entry that is changed
-pub sound_changed_waiting : (state : State) (row old : Waiting) → waiting_at row.id state.lists ≡ Some old → IsProduct state.lists.catalogue row.product → voucher_stands state.lists.vouchers row.voucher ≡ true → IsLimitedWaiting row → IsSound state → IsSound (changed (PutWaiting row) state)
+pub sound_changed_waiting : (state : State) (row old : Waiting) → waiting_at row.id state.lists ≡ Some old → IsProduct state.lists.catalogue row.product → voucher_stands state.lists.vouchers row.voucher ≡ true → IsLimitedWaiting row → IsSound state → IsSound (change_applied (PutWaiting row) state)
 sound_changed_waiting state row old at product stands limits h = record {
   range = h.range;
   few = set_waiting h.few (few_changed (λ r. r.id) most_rows row old state.lists.waiting h.ids.waiting.in_order at h.few.waiting);
@@ -76,7 +76,7 @@ sound_changed_waiting state row old at product stands limits h = record {
 }
 
 -- an entry that goes
-pub sound_drop_waiting : (state : State) (id : ℕ) → IsSound state → IsSound (changed (DropWaiting id) state)
+pub sound_drop_waiting : (state : State) (id : ℕ) → IsSound state → IsSound (change_applied (DropWaiting id) state)
 sound_drop_waiting state id h = record {
   range = h.range;
   few = set_waiting h.few (few_dropped (λ r. r.id) most_rows id state.lists.waiting h.few.waiting);

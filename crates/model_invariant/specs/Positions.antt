@@ -11,9 +11,9 @@ abbrev pub most_positions : ℕ
 most_positions = 500
 
 -- a position among others by their numbers in their order, before those whose numbers aren't below its own
-abbrev pub placed : OrderPos → List OrderPos → List OrderPos
-placed p [] = p ∷ []
-placed p (q ∷ qs) = if nat_le p.positionid q.positionid then p ∷ q ∷ qs else q ∷ placed p qs
+abbrev pub position_placed : OrderPos → List OrderPos → List OrderPos
+position_placed p [] = p ∷ []
+position_placed p (q ∷ qs) = if nat_le p.positionid q.positionid then p ∷ q ∷ qs else q ∷ position_placed p qs
 
 -- how many stand before that number: all before the first that isn't below it
 abbrev pub place_in : ℕ → List OrderPos → ℕ
@@ -23,7 +23,7 @@ place_in number (q ∷ qs) = if nat_le number q.positionid then 0 else suc (plac
 -- positions by their numbers in their order
 abbrev pub by_positionid : List OrderPos → List OrderPos
 by_positionid [] = []
-by_positionid (p ∷ ps) = placed p (by_positionid ps)
+by_positionid (p ∷ ps) = position_placed p (by_positionid ps)
 
 -- the positions' numbers in their order count on from n
 abbrev pub CountFrom : ℕ → List OrderPos → Type 0

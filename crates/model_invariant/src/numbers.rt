@@ -1,7 +1,7 @@
 //! Positions by their numbers in their order.
 
 ghost use Rattle.std.specs.Prelude.{◌≡◌, ◌≤◌, ◌↔◌, IsTrue, IfOk, OnOk, length};
-ghost use Rattle.model_invariant.specs.Positions.{CountFrom, by_positionid, place_in, placed};
+ghost use Rattle.model_invariant.specs.Positions.{CountFrom, by_positionid, place_in, position_placed};
 
 use base_values::List;
 use model_rows::OrderPos;
@@ -35,7 +35,7 @@ fn place_of(rows: &[OrderPos], number: u32) -> usize
 // Puts a position among others that are by their numbers.
 #[tactic(auto, using(crate::proofs::ByNumber::placed_at))]
 fn place(rows: &mut Vec<OrderPos>, row: OrderPos) -> Result<(), AllocError>
-    ensures { OnOk result (rows.new.items ≡ placed row rows.old.items) }
+    ensures { OnOk result (rows.new.items ≡ position_placed row rows.old.items) }
 {
     let at = place_of(rows, row.positionid);
     match rows.insert(at, row) {

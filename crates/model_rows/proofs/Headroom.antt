@@ -77,7 +77,10 @@ module _ (at : ℕ) (lists : Lists) (row : CartPos) (order : AreInOrder (λ r. r
   all_some n [] id e left o h = tt
   all_some n (v ∷ vs) id e left o h = by_id (eqb_tells v.id id) (all_some (v.id + 1) vs id e) (all_above (v.id + 1) vs id e)
     where
-      by_id : ((eqb v.id id ≡ true) × (v.id ≡ id)) ⊎ ((eqb v.id id ≡ false) × (v.id ≢ id)) → (has_use_by at lists (row_at (λ r. r.id) id vs) ≡ true → InOrderFrom (λ r. r.id) (v.id + 1) vs → AllByRecursion (HasHeadroom at lists) vs → AllByRecursion (HasHeadroom at (after_change (PutCart row) lists)) vs) → (id < v.id + 1 → InOrderFrom (λ r. r.id) (v.id + 1) vs → AllByRecursion (HasHeadroom at lists) vs → AllByRecursion (HasHeadroom at (after_change (PutCart row) lists)) vs) → AllByRecursion (HasHeadroom at (after_change (PutCart row) lists)) (v ∷ vs)
+      by_id : ((eqb v.id id ≡ true) × (v.id ≡ id)) ⊎ ((eqb v.id id ≡ false) × (v.id ≢ id))
+          → (has_use_by at lists (row_at (λ r. r.id) id vs) ≡ true → InOrderFrom (λ r. r.id) (v.id + 1) vs → AllByRecursion (HasHeadroom at lists) vs → AllByRecursion (HasHeadroom at (after_change (PutCart row) lists)) vs)
+          → (id < v.id + 1 → InOrderFrom (λ r. r.id) (v.id + 1) vs → AllByRecursion (HasHeadroom at lists) vs → AllByRecursion (HasHeadroom at (after_change (PutCart row) lists)) vs)
+          → AllByRecursion (HasHeadroom at (after_change (PutCart row) lists)) (v ∷ vs)
       by_id (inl same) rest above =
           let own : has_use_by at lists (Some v) ≡ true = sym (ap (λ b. has_use_by at lists (if b then Some v else row_at (λ r. r.id) id vs)) same.0) ∙ left in
           (room_own v own, above (omega (arith, same.1)) o.1 h.1)

@@ -60,7 +60,9 @@ module _ (position : ℕ) (row : Checkin) where
       flip : eqb c.id row.id ≡ false → eqb row.id c.id ≡ false
       flip e = grind (arith, nat_tests, e)
 
-      by_test : (b : Bool) → ((first : Option Passage) → row_at (λ r. r.id) row.id cs ≡ None → last_after (Some (later first (passage row))) (filter (is_at position) cs) ≡ Some (later (last_after first (filter (is_at position) cs)) (passage row))) → last_after (Some (later o (passage row))) (cond b (c ∷ filter (is_at position) cs) (filter (is_at position) cs)) ≡ Some (later (last_after o (cond b (c ∷ filter (is_at position) cs) (filter (is_at position) cs))) (passage row))
+      by_test : (b : Bool)
+          → ((first : Option Passage) → row_at (λ r. r.id) row.id cs ≡ None → last_after (Some (later first (passage row))) (filter (is_at position) cs) ≡ Some (later (last_after first (filter (is_at position) cs)) (passage row)))
+          → last_after (Some (later o (passage row))) (cond b (c ∷ filter (is_at position) cs) (filter (is_at position) cs)) ≡ Some (later (last_after o (cond b (c ∷ filter (is_at position) cs) (filter (is_at position) cs))) (passage row))
       by_test true more = ap (λ (p : Passage). last_after (Some p) (filter (is_at position) cs)) (later_swap o (passage row) (passage c) (flip both.0)) ∙ more (Some (later o (passage c))) both.1
       by_test false more = more o both.1
 
@@ -83,7 +85,9 @@ module _ (position : ℕ) (row : Checkin) where
       never : c.id ≡ row.id → eqb c.id row.id ≡ false → ⊥
       never same e = grind (arith, nat_tests, same, e)
 
-      behind : (b : Bool) → ((first : Option Passage) → row_at (λ r. r.id) row.id cs ≡ None → last_after first (filter (is_at position) (with_row (λ r. r.id) row cs)) ≡ (if is_at position row then Some (later (last_after first (filter (is_at position) cs)) (passage row)) else last_after first (filter (is_at position) cs))) → last_after o (cond b (c ∷ filter (is_at position) (with_row (λ r. r.id) row cs)) (filter (is_at position) (with_row (λ r. r.id) row cs))) ≡ (if is_at position row then Some (later (last_after o (cond b (c ∷ filter (is_at position) cs) (filter (is_at position) cs))) (passage row)) else last_after o (cond b (c ∷ filter (is_at position) cs) (filter (is_at position) cs)))
+      behind : (b : Bool)
+          → ((first : Option Passage) → row_at (λ r. r.id) row.id cs ≡ None → last_after first (filter (is_at position) (with_row (λ r. r.id) row cs)) ≡ (if is_at position row then Some (later (last_after first (filter (is_at position) cs)) (passage row)) else last_after first (filter (is_at position) cs)))
+          → last_after o (cond b (c ∷ filter (is_at position) (with_row (λ r. r.id) row cs)) (filter (is_at position) (with_row (λ r. r.id) row cs))) ≡ (if is_at position row then Some (later (last_after o (cond b (c ∷ filter (is_at position) cs) (filter (is_at position) cs))) (passage row)) else last_after o (cond b (c ∷ filter (is_at position) cs) (filter (is_at position) cs)))
       behind true more = more (Some (later o (passage c))) both.1
       behind false more = more o both.1
 

@@ -5,10 +5,10 @@ use Rattle.std.specs.List.{AllByRecursion}
 use Rattle.std.proofs.lemmas.Bool.Decides.{nat_tests}
 use Rattle.model_catalogue.specs.declared.rows.Quota.{Quota}
 use Rattle.model_rows.specs.Lists.{Lists, State}
-use Rattle.model_rows.specs.Over.{first_over, is_over, is_over_size, weighed}
+use Rattle.model_rows.specs.Over.{first_over, is_over, is_over_size, quota_weighed}
 use Rattle.model_rows.specs.Total.{total}
 use Rattle.model_rows.specs.Usage.{usage_of}
-use Rattle.model_rows.specs.Takes.{used, IsWithin, TakesNoMore}
+use Rattle.model_rows.specs.Takes.{places_used, IsWithin, TakesNoMore}
 
 -- where a search of quotas finds none, each fails the test
 pub none_passes : (test : Quota → Bool) (quotas : List Quota) → option_map (λ quota. quota.id) (find test quotas) ≡ None → AllByRecursion (λ quota. test quota ≡ false) quotas
@@ -33,8 +33,8 @@ less_nothing : (n : ℕ) → n - 0 ≡ n
 less_nothing n = omega arith
 
 -- a request without positions of its own weighs all that is used
-weighs_all : (lists : Lists) (at : ℕ) (quota : Quota) → weighed lists at quota [] ≡ total (usage_of lists at quota)
-unfolding weighed
+weighs_all : (lists : Lists) (at : ℕ) (quota : Quota) → quota_weighed lists at quota [] ≡ total (usage_of lists at quota)
+unfolding quota_weighed
 weighs_all lists at quota = less_nothing (total (usage_of lists at quota))
 
 all_within : (before after : State) (quotas : List Quota) → AllByRecursion (λ quota. is_over before.lists after.lists before.moment [] quota ≡ false) quotas → AllByRecursion (λ quota. IsWithin quota.size (total (usage_of before.lists before.moment quota)) (total (usage_of after.lists before.moment quota))) quotas
@@ -45,5 +45,5 @@ all_within before after (quota ∷ quotas) h =
 -- a request without positions of its own
 pub takes_no_more_alone : (before after : State) → after.moment ≡ before.moment → first_over before.lists after.lists before.moment [] ≡ None → TakesNoMore before after
 takes_no_more_alone before after same h =
-    subst (λ (at : ℕ). AllByRecursion (λ quota. IsWithin quota.size (used before quota) (total (usage_of after.lists at quota))) after.lists.catalogue.quotas) (sym same)
+    subst (λ (at : ℕ). AllByRecursion (λ quota. IsWithin quota.size (places_used before quota) (total (usage_of after.lists at quota))) after.lists.catalogue.quotas) (sym same)
     (all_within before after after.lists.catalogue.quotas (none_passes (is_over before.lists after.lists before.moment []) after.lists.catalogue.quotas h))

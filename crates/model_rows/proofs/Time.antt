@@ -161,7 +161,9 @@ module _ (lists : Lists) (quota : Quota) where
         same_counts : 0 + count_by (cart_counts (with_vouchers []) at quota) lists.carts ≡ count_by (is_free_here []) lists.carts + 0
         same_counts = omega (arith, same_sums (λ c. one (cart_counts (with_vouchers []) at quota c)) (λ c. one (is_free_here [] c)) lists.carts (λ c. ap (λ b. one (is_here c && not b)) (nothing c.voucher)))
     regrouped n (v ∷ vs) h =
-        let b = balance v.block_quota (hits quota v) (is_live_voucher at v) (sum_by (blocked_by lists at quota) vs) (count_by (cart_counts (with_vouchers vs) at quota) lists.carts) (count_by (is_free_here vs) lists.carts) (count_by (cart_counts (with_vouchers (v ∷ vs)) at quota) lists.carts) (count_by (is_free_here (v ∷ vs)) lists.carts) (sum_by weight vs) (count_by (claims v) lists.carts) (v.max_usages - redeemed v.id lists) (carts_cons v vs h.1) (free_cons v vs h.1) (regrouped (v.id + 1) vs h.1) in
+        let b = balance v.block_quota (hits quota v) (is_live_voucher at v) (sum_by (blocked_by lists at quota) vs) (count_by (cart_counts (with_vouchers vs) at quota) lists.carts) (count_by (is_free_here vs) lists.carts)
+        (count_by (cart_counts (with_vouchers (v ∷ vs)) at quota) lists.carts) (count_by (is_free_here (v ∷ vs)) lists.carts) (sum_by weight vs) (count_by (claims v) lists.carts) (v.max_usages - redeemed v.id lists)
+        (carts_cons v vs h.1) (free_cons v vs h.1) (regrouped (v.id + 1) vs h.1) in
         omega (arith, b, blocked_is v, weight_is v, sum_by-cons (blocked_by lists at quota) v vs, sum_by-cons weight v vs)
 
 -- later, less is free and less is weighed

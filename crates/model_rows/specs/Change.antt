@@ -33,12 +33,12 @@ pub record Changed : Type 0 where
   pub next : NextIds
 
 -- the box office with the changes, at a moment
-abbrev pub applied : Changed → ℕ → State → State
-applied changes moment state = record { lists = after_all changes.list state.lists; next = changes.next; moment = moment }
+abbrev pub changes_applied : Changed → ℕ → State → State
+changes_applied changes moment state = record { lists = after_all changes.list state.lists; next = changes.next; moment = moment }
 
 -- the box office with one more change
-abbrev pub changed : Change → State → State
-changed change state = record state { lists = after_change change state.lists }
+abbrev pub change_applied : Change → State → State
+change_applied change state = record state { lists = after_change change state.lists }
 
 -- the box office without the cart positions of these ids
 abbrev pub without_carts : List ℕ → State → State

@@ -10,5 +10,5 @@ abbrev pub is_consumed : List (List ℕ) → CartPos → Bool
 is_consumed carts position = list_any (λ cart. same_text position.cart_id cart) carts
 
 -- their ids, dead ones too
-abbrev pub consumed : List (List ℕ) → Lists → List ℕ
-consumed carts lists = map (λ c. c.id) (filter (is_consumed carts) lists.carts)
+abbrev pub carts_consumed : List (List ℕ) → Lists → List ℕ
+carts_consumed carts lists = map (λ c. c.id) (filter (is_consumed carts) lists.carts)

@@ -36,8 +36,8 @@ is_free lists at quota (Cart id) = is_free_cart lists at quota (cart_at id lists
 is_free lists at quota (Position id) = is_free_position lists quota (position_at id lists)
 
 -- what is used afterwards, less the request's own rows that ignore quotas
-unfoldable pub weighed : Lists → ℕ → Quota → List Own → ℕ
-weighed lists at quota own = total (usage_of lists at quota) - count_by (is_free lists at quota) own
+unfoldable pub quota_weighed : Lists → ℕ → Quota → List Own → ℕ
+quota_weighed lists at quota own = total (usage_of lists at quota) - count_by (is_free lists at quota) own
 
 -- what is weighed is more than the size, and more than was used before; an unlimited quota is never over
 abbrev pub is_over_size : Option ℕ → ℕ → ℕ → Bool
@@ -46,7 +46,7 @@ is_over_size (Some size) before weight = nat_lt size weight && nat_lt before wei
 
 -- the request, which leads from one shop to the other, takes too much of the quota
 abbrev pub is_over : Lists → Lists → ℕ → List Own → Quota → Bool
-is_over before after at own quota = is_over_size quota.size (total (usage_of before at quota)) (weighed after at quota own)
+is_over before after at own quota = is_over_size quota.size (total (usage_of before at quota)) (quota_weighed after at quota own)
 
 -- the least such quota
 abbrev pub first_over : Lists → Lists → ℕ → List Own → Option ℕ

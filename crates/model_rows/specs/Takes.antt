@@ -7,8 +7,8 @@ use Rattle.model_rows.specs.Usage.{usage_of}
 use Rattle.model_rows.specs.Total.{total}
 
 -- how many places of a quota are used
-abbrev pub used : State → Quota → ℕ
-used state quota = total (usage_of state.lists state.moment quota)
+abbrev pub places_used : State → Quota → ℕ
+places_used state quota = total (usage_of state.lists state.moment quota)
 
 -- what is used afterwards is within the size, or no more than was used before
 abbrev pub IsWithin : Option ℕ → ℕ → ℕ → Type 0
@@ -17,4 +17,4 @@ IsWithin (Some size) before after = (after ≤ size) ⊎ (after ≤ before)
 
 -- no quota is taken too much of
 abbrev pub TakesNoMore : State → State → Type 0
-TakesNoMore before after = AllByRecursion (λ quota. IsWithin quota.size (used before quota) (used after quota)) after.lists.catalogue.quotas
+TakesNoMore before after = AllByRecursion (λ quota. IsWithin quota.size (places_used before quota) (places_used after quota)) after.lists.catalogue.quotas

@@ -2,7 +2,7 @@
 
 ghost use Rattle.std.specs.Prelude.{◌≡◌, map};
 ghost use Rattle.office_service.specs.Machine.{list_of};
-ghost use Rattle.model_commands.specs.Pages.{listed};
+ghost use Rattle.model_commands.specs.Pages.{page_listed};
 ghost use Rattle.office_commands.specs.Told.{IfOkIs};
 
 use crate::office::Office;
@@ -45,7 +45,8 @@ impl<B: Book> Office<B> {
         number: u64,
         rows: &[R],
     ) -> Result<Reply, AllocError>
-        ensures { IfOkIs result (listed resource (R.show self.now.state.lists) number rows.now) }
+        ensures { IfOkIs result
+            (page_listed resource (R.show self.now.state.lists) number rows.now) }
     {
         let count = rows.len();
         if !is_page(number, count) {
@@ -64,7 +65,7 @@ impl<B: Book> Office<B> {
         rows: &Sparse<R>,
     ) -> Result<Reply, AllocError>
         ensures { IfOkIs result
-            (listed resource (R.show self.now.state.lists) number rows.now.rows) }
+            (page_listed resource (R.show self.now.state.lists) number rows.now.rows) }
     {
         let count = rows.len();
         if !is_page(number, count) {

@@ -1,7 +1,7 @@
 //! One box office over a book.
 
 ghost use Rattle.std.specs.Prelude.{◌≡◌, ◌≤◌, IfOk, OnOk};
-ghost use Rattle.model_rows.specs.Change.{applied};
+ghost use Rattle.model_rows.specs.Change.{changes_applied};
 ghost use Rattle.model_rows.specs.CountRows.{counts_after};
 ghost use Rattle.model_rows.specs.Weight.{weight};
 ghost use Rattle.model_invariant.specs.Sound.{IsSound};
@@ -104,7 +104,7 @@ impl<B: Book> Office<B> {
     ) -> Result<(Drafted, Reply), AllocError>
         requires { self.now.state.moment ≤ at }
         ensures step { IfOk result (IsStep command.now at draw self.now.state) }
-        ensures sound { IfOk result (λ r. IsSound (applied r.0.changes at self.now.state)) }
+        ensures sound { IfOk result (λ r. IsSound (changes_applied r.0.changes at self.now.state)) }
     {
         let book = self.book();
         command.known();
@@ -142,8 +142,8 @@ impl<B: Book> Office<B> {
     pub fn adopt(&mut self, changes: Changes, at: Moment)
         requires room { weight changes.list ≤ self.old.room }
         requires moment { self.old.state.moment ≤ at }
-        requires sound { IsSound (applied changes at self.old.state) }
-        ensures state { self.new.state ≡ applied changes at self.old.state }
+        requires sound { IsSound (changes_applied changes at self.old.state) }
+        ensures state { self.new.state ≡ changes_applied changes at self.old.state }
         ensures organizer { self.new.organizer ≡ self.old.organizer }
         ensures event { self.new.event ≡ self.old.event }
     {
@@ -156,10 +156,10 @@ impl<B: Dues> Office<B> {
     pub fn settle(&mut self, changes: Changes, counts: &CountRows, at: Moment)
         requires room { weight changes.list ≤ self.old.room }
         requires moment { self.old.state.moment ≤ at }
-        requires sound { IsSound (applied changes at self.old.state) }
+        requires sound { IsSound (changes_applied changes at self.old.state) }
         requires counts { counts.now
-            ≡ counts_after self.old.state (applied changes at self.old.state) }
-        ensures state { self.new.state ≡ applied changes at self.old.state }
+            ≡ counts_after self.old.state (changes_applied changes at self.old.state) }
+        ensures state { self.new.state ≡ changes_applied changes at self.old.state }
         ensures organizer { self.new.organizer ≡ self.old.organizer }
         ensures event { self.new.event ≡ self.old.event }
     {

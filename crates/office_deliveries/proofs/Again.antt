@@ -11,7 +11,7 @@ use Rattle.model_rows.specs.Lists.{State}
 use Rattle.model_commands.specs.declared.replies.Reply.{Reply}
 use Rattle.office_deliveries.specs.declared.arrival.Arrival.{Arrival}
 use Rattle.model_answers.specs.declared.kept.Kept.{Kept}
-use Rattle.office_deliveries.specs.Deliveries.{came, is_write, done, repeats, Delivery, Opening, First, latest, now, is_repeat, is_first, with_next, firsts_after, firsts, held_for, told_once, executed, office_after, answers, office, ever_kept, told_in}
+use Rattle.office_deliveries.specs.Deliveries.{came, is_write, request_done, repeats, Delivery, Opening, First, latest, now, is_repeat, is_first, with_next, firsts_after, firsts, held_for, told_once, write_executed, office_after, answers, office, ever_kept, told_in}
 use Rattle.model_answers.specs.KeptAnswers.{has_key}
 use Rattle.office_deliveries.specs.Headline.{HasTheKeyOf, IsAnother, ToldAgain, ExecutedAnew}
 use Rattle.model_answers.proofs.Lists.{find-behind, none-stricter, any-append, some-find}
@@ -32,7 +32,7 @@ firsts-append p fs (d ∷ ds) es = firsts-append p (with_next p fs d) ds es
 pub answers-append : (words : Reply → Response) (state : State) (fs gs : List First) → answers words state (fs ++ gs) ≡ answers words state fs ++ answers words (office_after words state fs) gs
 answers-append words state [] gs = refl
 answers-append words state (f ∷ fs) gs =
-    ap (λ (ks : List Kept). record { token = f.arrival.token; key = f.arrival.key; at = f.at; response = (executed words f state).1 } ∷ ks) (answers-append words (executed words f state).0 fs gs)
+    ap (λ (ks : List Kept). record { token = f.arrival.token; key = f.arrival.key; at = f.at; response = (write_executed words f state).1 } ∷ ks) (answers-append words (write_executed words f state).0 fs gs)
 
 pub latest-append : (m : ℕ) (fs gs : List First) → latest m (fs ++ gs) ≡ latest (latest m fs) gs
 latest-append m [] gs = refl
@@ -125,10 +125,10 @@ later p fs a b behind all timed are =
 -- what was ever kept: what was before a write with a key, its own answer, and what came later
 ever-parts : (words : Reply → Response) (p : Opening) (fs : List First) (f : First) (behind : List First) → has_key f.arrival.key ≡ true
     → ever_kept words p ((fs ++ f ∷ []) ++ behind)
-    ≡ ever_kept words p fs ++ record { token = f.arrival.token; key = f.arrival.key; at = f.at; response = (executed words f (office words p fs)).1 } ∷ filter (λ k. has_key k.key) (answers words (office_after words p.state (fs ++ f ∷ [])) behind)
+    ≡ ever_kept words p fs ++ record { token = f.arrival.token; key = f.arrival.key; at = f.at; response = (write_executed words f (office words p fs)).1 } ∷ filter (λ k. has_key k.key) (answers words (office_after words p.state (fs ++ f ∷ [])) behind)
 ever-parts words p fs f behind has =
     let keyed : Kept → Bool = λ k. has_key k.key in
-    let row : Kept = record { token = f.arrival.token; key = f.arrival.key; at = f.at; response = (executed words f (office words p fs)).1 } in
+    let row : Kept = record { token = f.arrival.token; key = f.arrival.key; at = f.at; response = (write_executed words f (office words p fs)).1 } in
     let old = answers words p.state fs in
     let new = answers words (office_after words p.state (fs ++ f ∷ [])) behind in
     let all : answers words p.state ((fs ++ f ∷ []) ++ behind) ≡ (old ++ row ∷ []) ++ new =
@@ -156,7 +156,7 @@ told_again words p ds a es b first same soon =
     let n = now p fs a in
     let m = now p all b in
     let before : n ≤ m = later p fs a b x.behind all (timed p (ds ++ came a ∷ es)) x.are in
-    let fresh = (done words a.request n a.draw (office words p fs)).1 in
+    let fresh = (request_done words a.request n a.draw (office words p fs)).1 in
     let row : Kept = record { token = a.token; key = a.key; at = n; response = fresh } in
     let passes : Kept → Bool = λ k. repeats b m k.token k.key k.at in
     let rest : List Kept = filter (λ k. has_key k.key) (answers words (office_after words p.state (fs ++ first_of p fs a ∷ [])) x.behind) in
@@ -172,7 +172,7 @@ told_again words p ds a es b first same soon =
     }) in
     let found : held_for b m (ever_kept words p all) ≡ Some row =
     ap (held_for b m) rows ∙ (find-behind passes (ever_kept words p fs) (row ∷ rest) none_old ∙ ap (λ (b : Bool). cond b (Some row) (find passes rest)) hit) in
-    let other = (done words b.request m b.draw (office words p all)).1 in
+    let other = (request_done words b.request m b.draw (office words p all)).1 in
     let second : told_in words p all b ≡ fresh =
     ap (λ (c : Bool). told_once other (cond c (held_for b m (ever_kept words p all)) None)) same.write ∙ ap (told_once other) found in
     let none_found : held_for a n (ever_kept words p fs) ≡ None = none-from (held_for a n (ever_kept words p fs)) (sym (repeat-is words p fs a) ∙ x.none) in

@@ -7,10 +7,10 @@ use Rattle.base_values.specs.declared.answer.Response.{Response}
 use Rattle.model_commands.specs.declared.replies.Reply.{Reply}
 use Rattle.office_deliveries.specs.declared.arrival.Arrival.{Arrival}
 use Rattle.model_answers.specs.declared.kept.Kept.{Kept}
-use Rattle.office_deliveries.specs.Deliveries.{is_write, done, repeats, Delivery, Opening, First, is_repeat, is_first, with_next, firsts_after, firsts, held_for, office, kept}
+use Rattle.office_deliveries.specs.Deliveries.{is_write, request_done, repeats, Delivery, Opening, First, is_repeat, is_first, with_next, firsts_after, firsts, held_for, office, answers_kept}
 use Rattle.model_answers.specs.KeptAnswers.{has_key, lasts, same_key, AreOneForEachKey}
 use Rattle.model_answers.specs.ShopView.{with_kept}
-use Rattle.office_deliveries.specs.Shops.{moment_of, own, stood}
+use Rattle.office_deliveries.specs.Shops.{moment_of, own, shop_after}
 use Rattle.model_answers.proofs.Lists.{some-find}
 use Rattle.office_deliveries.proofs.Runs.{AreTimed, timed-next}
 use Rattle.office_deliveries.proofs.Again.{none-from}
@@ -78,24 +78,24 @@ one-next a n told ks one none =
       | false ↦ λ has. unkeyed
     ] refl)
 
-one-step : (words : Reply → Response) (p : Opening) (fs : List First) (d : Delivery) → AreTimed p.state.moment fs → AreOneForEachKey (kept words p fs) → AreOneForEachKey (kept words p (with_next p fs d))
+one-step : (words : Reply → Response) (p : Opening) (fs : List First) (d : Delivery) → AreTimed p.state.moment fs → AreOneForEachKey (answers_kept words p fs) → AreOneForEachKey (answers_kept words p (with_next p fs d))
 one-step words p fs d timed one =
     let a = d.arrival in
-    elim (is_first p fs d) as (λ b. is_first p fs d ≡ b → AreOneForEachKey (kept words p (cond b (fs ++ first_of p fs a ∷ []) fs))) [
+    elim (is_first p fs d) as (λ b. is_first p fs d ≡ b → AreOneForEachKey (answers_kept words p (cond b (fs ++ first_of p fs a ∷ []) fs))) [
       | true ↦ λ first.
           let x = and_parts (is_write a.request && not d.unavailable) (not (is_repeat p fs a)) first in
           let write = (and_parts (is_write a.request) (not d.unavailable) x.0).0 in
-          let none : held_for a (moment_of (stood words p fs) a) (kept words p fs) ≡ None =
-          none-from (held_for a (moment_of (stood words p fs) a) (kept words p fs)) (ap is_some (found-same words p fs timed a) ∙ (sym (repeat-is words p fs a) ∙ not-true (is_repeat p fs a) x.1)) in
+          let none : held_for a (moment_of (shop_after words p fs) a) (answers_kept words p fs) ≡ None =
+          none-from (held_for a (moment_of (shop_after words p fs) a) (answers_kept words p fs)) (ap is_some (found-same words p fs timed a) ∙ (sym (repeat-is words p fs a) ∙ not-true (is_repeat p fs a) x.1)) in
           subst AreOneForEachKey (kept-next words p fs timed a write)
-          (one-next a (moment_of (stood words p fs) a) (done words a.request (moment_of (stood words p fs) a) a.draw (office words p fs)).1 (kept words p fs) one none)
+          (one-next a (moment_of (shop_after words p fs) a) (request_done words a.request (moment_of (shop_after words p fs) a) a.draw (office words p fs)).1 (answers_kept words p fs) one none)
       | false ↦ λ first. one
     ] refl
 
-one-after : (words : Reply → Response) (p : Opening) (fs : List First) (ds : List Delivery) → AreTimed p.state.moment fs → AreOneForEachKey (kept words p fs) → AreOneForEachKey (kept words p (firsts_after p fs ds))
+one-after : (words : Reply → Response) (p : Opening) (fs : List First) (ds : List Delivery) → AreTimed p.state.moment fs → AreOneForEachKey (answers_kept words p fs) → AreOneForEachKey (answers_kept words p (firsts_after p fs ds))
 one-after words p fs [] timed one = one
 one-after words p fs (d ∷ ds) timed one = one-after words p (with_next p fs d) ds (timed-next p fs d timed) (one-step words p fs d timed one)
 
-pub one_each : (words : Reply → Response) (p : Opening) (ds : List Delivery) → AreOneForEachKey p.kept → AreOneForEachKey (kept words p (firsts p ds))
+pub one_each : (words : Reply → Response) (p : Opening) (ds : List Delivery) → AreOneForEachKey p.kept → AreOneForEachKey (answers_kept words p (firsts p ds))
 one_each words p ds one =
     one-after words p [] ds tt (one-filter (λ k. lasts p.state.moment k.at) (p.kept ++ []) (subst AreOneForEachKey (sym (append-nil p.kept)) one))

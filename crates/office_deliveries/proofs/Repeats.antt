@@ -8,7 +8,7 @@ use Rattle.model_rows.specs.Lists.{State}
 use Rattle.model_commands.specs.declared.replies.Reply.{Reply}
 use Rattle.office_deliveries.specs.declared.arrival.Arrival.{Arrival}
 use Rattle.model_answers.specs.declared.kept.Kept.{Kept}
-use Rattle.office_deliveries.specs.Deliveries.{repeats, Opening, First, now, is_repeat, held_for, executed, answers, ever_kept}
+use Rattle.office_deliveries.specs.Deliveries.{repeats, Opening, First, now, is_repeat, held_for, write_executed, answers, ever_kept}
 use Rattle.model_answers.specs.KeptAnswers.{has_key, lasts}
 use Rattle.model_answers.proofs.Lists.{find-filter, some-find, any-append, any-filter}
 
@@ -54,7 +54,7 @@ module _ (words : Reply → Response) where
   any-answers : (a : Arrival) (n : ℕ) (state : State) (fs : List First)
       → list_any (λ k. repeats a n k.token k.key k.at) (answers words state fs) ≡ list_any (λ f. repeats a n f.arrival.token f.arrival.key f.at) fs
   any-answers a n state [] = refl
-  any-answers a n state (f ∷ fs) = ap (λ (b : Bool). repeats a n f.arrival.token f.arrival.key f.at || b) (any-answers a n (executed words f state).0 fs)
+  any-answers a n state (f ∷ fs) = ap (λ (b : Bool). repeats a n f.arrival.token f.arrival.key f.at || b) (any-answers a n (write_executed words f state).0 fs)
 
   any-kept : (a : Arrival) (n : ℕ) (state : State) (fs : List First)
       → list_any (λ k. repeats a n k.token k.key k.at) (filter (λ k. has_key k.key) (answers words state fs)) ≡ list_any (λ f. repeats a n f.arrival.token f.arrival.key f.at) fs

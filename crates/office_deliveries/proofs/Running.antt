@@ -9,17 +9,17 @@ use Rattle.model_invariant.specs.Sound.{IsSound}
 use Rattle.model_commands.specs.declared.replies.Reply.{Reply}
 use Rattle.office_deliveries.specs.declared.arrival.Arrival.{Arrival}
 use Rattle.model_answers.specs.declared.kept.Kept.{Kept}
-use Rattle.office_deliveries.specs.Deliveries.{is_write, held_for, done}
+use Rattle.office_deliveries.specs.Deliveries.{is_write, held_for, request_done}
 use Rattle.model_answers.specs.KeptAnswers.{AreOneForEachKey}
 use Rattle.model_answers.specs.ShopView.{ShopView, IsSame}
-use Rattle.office_deliveries.specs.Shops.{Views, IsAnswered, IsDecided, moment_of, executes, acted_by, acted, shown, served}
-use Rattle.office_deliveries.specs.Histories.{Running, MayLeave, IsRunning, TellsIt, IsAmong, also_undecided, after_answer, after_none, after_act, opened, Reopened}
+use Rattle.office_deliveries.specs.Shops.{Views, IsAnswered, IsDecided, moment_of, executes, acted_by, write_served, read_served, arrival_served}
+use Rattle.office_deliveries.specs.Histories.{Running, MayLeave, IsRunning, TellsIt, IsAmong, also_undecided, after_answer, after_none, after_act, running_from, Reopened}
 use Rattle.office_deliveries.proofs.OneEach.{one-next}
 
 -- a write that isn't executed leaves the shop as it is
-unexecuted : (words : Reply → Response) (a : Arrival) (v : ShopView) → is_write a.request ≡ true → executes a v ≡ false → (served words a v).0 ≡ v
+unexecuted : (words : Reply → Response) (a : Arrival) (v : ShopView) → is_write a.request ≡ true → executes a v ≡ false → (arrival_served words a v).0 ≡ v
 unexecuted words a v write not_executed =
-    ap (λ (b : Bool). (cond b (acted words a v) (v, shown words a v)).0) write ∙ by_held (held_for a (moment_of v a) v.kept) (ap (λ (b : Bool). b && not (is_some (held_for a (moment_of v a) v.kept))) (sym write) ∙ not_executed)
+    ap (λ (b : Bool). (cond b (write_served words a v) (v, read_served words a v)).0) write ∙ by_held (held_for a (moment_of v a) v.kept) (ap (λ (b : Bool). b && not (is_some (held_for a (moment_of v a) v.kept))) (sym write) ∙ not_executed)
   where
     by_held : (h : Option Kept) → (true && not (is_some h)) ≡ false → (acted_by words h a v).0 ≡ v
     by_held (Some k) e = refl
@@ -38,13 +38,13 @@ after-unexecuted words a r write not_executed =
 
 module _ {T : Type 0} (holds : T → State → List Kept → Type 0) (may_leave : T → ShopView → Type 0) (words : Reply → Response) (a : Arrival) (write : is_write a.request ≡ true)
     (tables tables' : T) (state state' : State) (r : Running) (running : IsRunning words holds may_leave tables state r)
-    (crash : (left : ShopView) → may_leave tables' left → may_leave tables left ⊎ ((v : ShopView) → Views holds tables state v → IsSame left (served words a v).0 × IsSound left.state)) where
+    (crash : (left : ShopView) → may_leave tables' left → may_leave tables left ⊎ ((v : ShopView) → Views holds tables state v → IsSame left (arrival_served words a v).0 × IsSound left.state)) where
   -- what a crash may leave, where it may leave the arrival's own shop
-  left-by : (s : Running) → ((x : ShopView) → MayLeave words r x → MayLeave words s x) → MayLeave words s (served words a r.shop).0
+  left-by : (s : Running) → ((x : ShopView) → MayLeave words r x → MayLeave words s x) → MayLeave words s (arrival_served words a r.shop).0
       → (left : ShopView) → may_leave tables' left → (x : ShopView) × MayLeave words s x × IsSame left x
   left-by s still own left may = elim (crash left may) [
     | inl old ↦ let x = running.leaves left old in (x.0, still x.0 x.1, x.2)
-    | inr new ↦ ((served words a r.shop).0, own, (new r.shop running.views).0)
+    | inr new ↦ ((arrival_served words a r.shop).0, own, (new r.shop running.views).0)
   ]
 
   -- and all of it is sound
@@ -52,9 +52,9 @@ module _ {T : Type 0} (holds : T → State → List Kept → Type 0) (may_leave 
   sound-left left may = elim (crash left may) [ inl old ↦ running.leaves_sound left old | inr new ↦ (new r.shop running.views).1 ]
 
   told-leaves : (executed : Bool) → executes a r.shop ≡ executed
-      → ((v : ShopView) → Views holds tables state v → executes a v ≡ true → (left : ShopView) → may_leave tables' left → IsSame left (served words a v).0)
+      → ((v : ShopView) → Views holds tables state v → executes a v ≡ true → (left : ShopView) → may_leave tables' left → IsSame left (arrival_served words a v).0)
       → (left : ShopView) → may_leave tables' left → (x : ShopView) × MayLeave words (after_answer words a r) x × IsSame left x
-  told-leaves true e settled left may = ((served words a r.shop).0, inl refl, settled r.shop running.views e left may)
+  told-leaves true e settled left may = ((arrival_served words a r.shop).0, inl refl, settled r.shop running.views e left may)
   told-leaves false e settled left may =
       left-by (after_answer words a r) (λ x m. subst (λ (q : Running). MayLeave words q x) (sym (after-unexecuted words a r write e)) m) (inl refl) left may
 
@@ -63,7 +63,7 @@ module _ {T : Type 0} (holds : T → State → List Kept → Type 0) (may_leave 
   also-left x (inr (b, among, e)) = inr (b, among-also b a r.undecided among, e)
 
   pub runs-on : (answer : Answer) → IsSound state' → IsAnswered words a r.shop answer (λ w. Views holds tables' state' w)
-      → IsDecided answer ((v : ShopView) → Views holds tables state v → executes a v ≡ true → (left : ShopView) → may_leave tables' left → IsSame left (served words a v).0)
+      → IsDecided answer ((v : ShopView) → Views holds tables state v → executes a v ≡ true → (left : ShopView) → may_leave tables' left → IsSame left (arrival_served words a v).0)
       → IsRunning words holds may_leave tables' state' (after_act words a answer r) × TellsIt words a answer r.shop
   runs-on (Decided t) sound answered settled = (
     record { views = answered.0; sound = subst IsSound answered.0.state_is sound; leaves = told-leaves (executes a r.shop) refl settled; leaves_sound = sound-left },
@@ -78,7 +78,7 @@ module _ {T : Type 0} (holds : T → State → List Kept → Type 0) (may_leave 
 after-read : (words : Reply → Response) (a : Arrival) (answer : Answer) (r : Running) → is_write a.request ≡ false → after_act words a answer r ≡ r
 after-read words a (Decided t) r read =
     ap₂ (λ (v : ShopView) (b : Bool). let x : Running = record { shop = v; undecided = cond b [] r.undecided } in x)
-    (ap (λ (b : Bool). (cond b (acted words a r.shop) (r.shop, shown words a r.shop)).0) read)
+    (ap (λ (b : Bool). (cond b (write_served words a r.shop) (r.shop, read_served words a r.shop)).0) read)
     (ap (λ (b : Bool). b && not (is_some (held_for a (moment_of r.shop a) r.shop.kept))) read)
 after-read words a Unavailable r read = ap (λ (b : Bool). let x : Running = record { shop = r.shop; undecided = cond b (a ∷ r.undecided) r.undecided } in x) read
 
@@ -96,10 +96,10 @@ reads-on holds may_leave words a answer tables state r read answered running =
 
 one-acted : (words : Reply → Response) (a : Arrival) (v : ShopView) → AreOneForEachKey v.kept → (h : Option Kept) → held_for a (moment_of v a) v.kept ≡ h → AreOneForEachKey (acted_by words h a v).0.kept
 one-acted words a v one (Some k) held = one
-one-acted words a v one None held = one-next a (moment_of v a) (done words a.request (moment_of v a) a.draw v.state).1 v.kept one held
+one-acted words a v one None held = one-next a (moment_of v a) (request_done words a.request (moment_of v a) a.draw v.state).1 v.kept one held
 
-one-served : (words : Reply → Response) (a : Arrival) (v : ShopView) → AreOneForEachKey v.kept → AreOneForEachKey (served words a v).0.kept
-one-served words a v one = elim (is_write a.request) as (λ b. AreOneForEachKey (cond b (acted words a v) (v, shown words a v)).0.kept) [
+one-served : (words : Reply → Response) (a : Arrival) (v : ShopView) → AreOneForEachKey v.kept → AreOneForEachKey (arrival_served words a v).0.kept
+one-served words a v one = elim (is_write a.request) as (λ b. AreOneForEachKey (cond b (write_served words a v) (v, read_served words a v)).0.kept) [
   | true ↦ one-acted words a v one (held_for a (moment_of v a) v.kept) refl
   | false ↦ one
 ]
@@ -112,7 +112,7 @@ pub reopened : {T : Type 0} (holds : T → State → List Kept → Type 0) (may_
     (reorders : (t : T) (s : State) (ks js : List Kept) → holds t s ks → IsPermutation ks js → holds t s js)
     (words : Reply → Response) (before after : T) (state : State) (left : ShopView) (r : Running)
     → IsRunning words holds may_leave before state r → Reopened holds may_leave before after left
-    → (x : ShopView) × MayLeave words r x × IsRunning words holds may_leave after left.state (opened words x)
+    → (x : ShopView) × MayLeave words r x × IsRunning words holds may_leave after left.state (running_from words x)
 reopened holds may_leave reorders words before after state left r running again =
     let found = running.leaves left again.may in
     let x = found.0 in

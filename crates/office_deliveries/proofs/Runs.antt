@@ -11,11 +11,11 @@ use Rattle.office_deliveries.specs.declared.arrival.Arrival.{Arrival}
 use Rattle.model_answers.specs.declared.kept.Kept.{Kept}
 use Rattle.office_deliveries.specs.declared.arrival.Request.{Request}
 use Rattle.office_deliveries.specs.declared.arrival.Request.TheVariants.{Write, WriteRefused, Read, ReadRefused}
-use Rattle.office_deliveries.specs.Deliveries.{is_write, done, Delivery, Opening, First, latest, now, is_first, with_next, firsts_after, firsts, executed, office_after, answers}
+use Rattle.office_deliveries.specs.Deliveries.{is_write, request_done, Delivery, Opening, First, latest, now, is_first, with_next, firsts_after, firsts, write_executed, office_after, answers}
 
 -- a write stores its moment
-pub stores : (words : Reply → Response) (request : Request) (clock : ℕ) (draw : Draw) (state : State) → is_write request ≡ true → (done words request (moment_at clock state) draw state).0.moment ≡ moment_at clock state
-unfolding done
+pub stores : (words : Reply → Response) (request : Request) (clock : ℕ) (draw : Draw) (state : State) → is_write request ≡ true → (request_done words request (moment_at clock state) draw state).0.moment ≡ moment_at clock state
+unfolding request_done
 stores words (Write command) clock draw state is = (sound_step command draw (record state { moment = moment_at clock state })).moment
 stores words (WriteRefused response) clock draw state is = refl
 stores words (Read query) clock draw state is = absurd (let both : false ≡ true = is in cc)
@@ -56,19 +56,19 @@ pub timed : (p : Opening) (ds : List Delivery) → AreTimed p.state.moment (firs
 timed p ds = timed-after p [] ds tt
 
 module _ (words : Reply → Response) where
-  pub office-more : (state : State) (fs : List First) (f : First) → office_after words state (fs ++ f ∷ []) ≡ (executed words f (office_after words state fs)).0
+  pub office-more : (state : State) (fs : List First) (f : First) → office_after words state (fs ++ f ∷ []) ≡ (write_executed words f (office_after words state fs)).0
   office-more state [] f = refl
-  office-more state (g ∷ fs) f = office-more (executed words g state).0 fs f
+  office-more state (g ∷ fs) f = office-more (write_executed words g state).0 fs f
 
   pub answers-more : (state : State) (fs : List First) (f : First)
-      → answers words state (fs ++ f ∷ []) ≡ answers words state fs ++ record { token = f.arrival.token; key = f.arrival.key; at = f.at; response = (executed words f (office_after words state fs)).1 } ∷ []
+      → answers words state (fs ++ f ∷ []) ≡ answers words state fs ++ record { token = f.arrival.token; key = f.arrival.key; at = f.at; response = (write_executed words f (office_after words state fs)).1 } ∷ []
   answers-more state [] f = refl
-  answers-more state (g ∷ fs) f = ap (λ (ks : List Kept). record { token = g.arrival.token; key = g.arrival.key; at = g.at; response = (executed words g state).1 } ∷ ks) (answers-more (executed words g state).0 fs f)
+  answers-more state (g ∷ fs) f = ap (λ (ks : List Kept). record { token = g.arrival.token; key = g.arrival.key; at = g.at; response = (write_executed words g state).1 } ∷ ks) (answers-more (write_executed words g state).0 fs f)
 
   -- the office's moment is that of the last executed write
   pub moment-is : (state : State) (fs : List First) → AreTimed state.moment fs → (office_after words state fs).moment ≡ latest state.moment fs
   moment-is state [] timed = refl
   moment-is state (f ∷ fs) (write, at, timed) =
-      let here : (executed words f state).0.moment ≡ f.at =
-      subst (λ (n : ℕ). (done words f.arrival.request n f.arrival.draw state).0.moment ≡ n) (sym at) (stores words f.arrival.request f.arrival.clock f.arrival.draw state write) in
-      moment-is (executed words f state).0 fs (subst (λ (n : ℕ). AreTimed n fs) (sym here) timed) ∙ ap (λ (n : ℕ). latest n fs) here
+      let here : (write_executed words f state).0.moment ≡ f.at =
+      subst (λ (n : ℕ). (request_done words f.arrival.request n f.arrival.draw state).0.moment ≡ n) (sym at) (stores words f.arrival.request f.arrival.clock f.arrival.draw state write) in
+      moment-is (write_executed words f state).0 fs (subst (λ (n : ℕ). AreTimed n fs) (sym here) timed) ∙ ap (λ (n : ℕ). latest n fs) here

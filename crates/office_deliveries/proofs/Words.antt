@@ -13,15 +13,15 @@ use Rattle.model_answers.specs.declared.kept.Kept.{Kept}
 use Rattle.model_answers.specs.KeptAnswers.{lasts}
 use Rattle.model_answers.specs.ShopView.{ShopView, own_row, with_kept}
 use Rattle.model_answers.proofs.Lists.{filter-filter}
-use Rattle.office_deliveries.specs.Deliveries.{Opening, Delivery, is_write, done, held_for, firsts, office, ever_kept}
-use Rattle.office_deliveries.specs.Shops.{Stands, moment_of, own, executes, executed_at, acted_by, acted, shown, served}
+use Rattle.office_deliveries.specs.Deliveries.{Opening, Delivery, is_write, request_done, held_for, firsts, office, ever_kept}
+use Rattle.office_deliveries.specs.Shops.{Stands, moment_of, own, executes, executed_at, acted_by, write_served, read_served, arrival_served}
 use Rattle.office_deliveries.specs.Histories.{Running, MayLeave, IsRunning, IsAmong, also_undecided, after_answer, after_none, after_act, event_of, Happens}
 use Rattle.office_deliveries.specs.Shops.{AreKeyless}
 
 -- ---- what a write without key makes of a shop
 
-same-state : (words other : Reply → Response) (request : Request) (at : ℕ) (draw : Draw) (state : State) → (done words request at draw state).0 ≡ (done other request at draw state).0
-unfolding done
+same-state : (words other : Reply → Response) (request : Request) (at : ℕ) (draw : Draw) (state : State) → (request_done words request at draw state).0 ≡ (request_done other request at draw state).0
+unfolding request_done
 same-state words other (Write command) at draw state = refl
 same-state words other (WriteRefused response) at draw state = refl
 same-state words other (Read query) at draw state = refl
@@ -34,16 +34,16 @@ unkept a at told none = ap (λ (key : List ℕ). own_row (record { token = a.tok
 module _ (words other : Reply → Response) (a : Arrival) (none : a.key ≡ []) where
   same-executed : (at : ℕ) (v : ShopView) → (executed_at words a at v).0 ≡ (executed_at other a at v).0
   same-executed at v =
-      let kept : own a at (done words a.request at a.draw v.state).1 ≡ own a at (done other a.request at a.draw v.state).1 =
-      unkept a at (done words a.request at a.draw v.state).1 none ∙ sym (unkept a at (done other a.request at a.draw v.state).1 none) in
+      let kept : own a at (request_done words a.request at a.draw v.state).1 ≡ own a at (request_done other a.request at a.draw v.state).1 =
+      unkept a at (request_done words a.request at a.draw v.state).1 none ∙ sym (unkept a at (request_done other a.request at a.draw v.state).1 none) in
       ap₂ (λ (s : State) (ks : List Kept). let x : ShopView = record { state = s; kept = ks } in x) (same-state words other a.request at a.draw v.state) (ap (with_kept at v.kept) kept)
 
   same-acted : (h : Option Kept) (v : ShopView) → (acted_by words h a v).0 ≡ (acted_by other h a v).0
   same-acted (Some k) v = refl
   same-acted None v = same-executed (moment_of v a) v
 
-  pub same-served : (v : ShopView) → (served words a v).0 ≡ (served other a v).0
-  same-served v = elim (is_write a.request) as (λ b. (cond b (acted words a v) (v, shown words a v)).0 ≡ (cond b (acted other a v) (v, shown other a v)).0) [
+  pub same-served : (v : ShopView) → (arrival_served words a v).0 ≡ (arrival_served other a v).0
+  same-served v = elim (is_write a.request) as (λ b. (cond b (write_served words a v) (v, read_served words a v)).0 ≡ (cond b (write_served other a v) (v, read_served other a v)).0) [
     | true ↦ same-acted (held_for a (moment_of v a) v.kept) v
     | false ↦ refl
   ]

@@ -27,11 +27,11 @@ is_write (ReadRefused response) = false
 
 -- What the small box office does with a request at a moment, which knows no keys, and what is told in these words: a write
 -- stores its moment, refused or not; a read changes nothing.
-unfoldable pub done : (Reply → Response) → Request → ℕ → Draw → State → State × Response
-done words (Write command) at draw state = let made = step command at draw state in (made.0, words made.1)
-done words (WriteRefused response) at draw state = (record state { moment = at }, response)
-done words (Read query) at draw state = (state, words (answer query at state))
-done words (ReadRefused response) at draw state = (state, response)
+unfoldable pub request_done : (Reply → Response) → Request → ℕ → Draw → State → State × Response
+request_done words (Write command) at draw state = let made = step command at draw state in (made.0, words made.1)
+request_done words (WriteRefused response) at draw state = (record state { moment = at }, response)
+request_done words (Read query) at draw state = (state, words (answer query at state))
+request_done words (ReadRefused response) at draw state = (state, response)
 
 -- ---- keys
 
@@ -110,18 +110,18 @@ told_once fresh (Some k) = k.response
 
 module _ (words : Reply → Response) where
   -- the office after an executed write, and its answer, at the moment and with the draw of that arrival
-  abbrev pub executed : First → State → State × Response
-  executed f state = done words f.arrival.request f.at f.arrival.draw state
+  abbrev pub write_executed : First → State → State × Response
+  write_executed f state = request_done words f.arrival.request f.at f.arrival.draw state
 
   -- the office after these writes, each executed in the office that the one before it left
   abbrev pub office_after : State → List First → State
   office_after state [] = state
-  office_after state (f ∷ fs) = office_after (executed f state).0 fs
+  office_after state (f ∷ fs) = office_after (write_executed f state).0 fs
 
   -- what each of them is told, under its token and its key, since its moment
   abbrev pub answers : State → List First → List Kept
   answers state [] = []
-  answers state (f ∷ fs) = record { token = f.arrival.token; key = f.arrival.key; at = f.at; response = (executed f state).1 } ∷ answers (executed f state).0 fs
+  answers state (f ∷ fs) = record { token = f.arrival.token; key = f.arrival.key; at = f.at; response = (write_executed f state).1 } ∷ answers (write_executed f state).0 fs
 
   -- the office after all executed writes, from the one of the opening on
   abbrev pub office : Opening → List First → State
@@ -132,21 +132,21 @@ module _ (words : Reply → Response) where
   ever_kept p fs = p.kept ++ filter (λ k. has_key k.key) (answers p.state fs)
 
   -- what is kept: all of it that isn't past
-  abbrev pub kept : Opening → List First → List Kept
-  kept p fs = filter (λ k. lasts (office p fs).moment k.at) (ever_kept p fs)
+  abbrev pub answers_kept : Opening → List First → List Kept
+  answers_kept p fs = filter (λ k. lasts (office p fs).moment k.at) (ever_kept p fs)
 
   -- what an arrival is told that isn't answered 503: a repeat what its first one was told; another write what it is told now;
   -- a read what it is told in the office of the writes before it
   abbrev pub told_in : Opening → List First → Arrival → Response
   told_in p fs a =
       let at = now p fs a in
-      told_once (done words a.request at a.draw (office p fs)).1 (if is_write a.request then held_for a at (ever_kept p fs) else None)
+      told_once (request_done words a.request at a.draw (office p fs)).1 (if is_write a.request then held_for a at (ever_kept p fs) else None)
 
   -- the answer to an arrival behind others: 503 where it was turned away, else by the writes executed till then
-  abbrev pub told : Opening → List Delivery → Delivery → Answer
-  told p ds d = if d.unavailable then Unavailable else Decided (told_in p (firsts p ds) d.arrival)
+  abbrev pub answer_told : Opening → List Delivery → Delivery → Answer
+  answer_told p ds d = if d.unavailable then Unavailable else Decided (told_in p (firsts p ds) d.arrival)
 
   -- what the arrivals of a list are told that come after others
   abbrev pub told_after : Opening → List Delivery → List Delivery → List Answer
   told_after p ds [] = []
-  told_after p ds (e ∷ es) = told p ds e ∷ told_after p (ds ++ e ∷ []) es
+  told_after p ds (e ∷ es) = answer_told p ds e ∷ told_after p (ds ++ e ∷ []) es

@@ -4,7 +4,7 @@ use Rattle.std.specs.List.{AllByRecursion}
 use Rattle.base_values.specs.declared.answer.Response.{Response}
 use Rattle.model_commands.specs.declared.replies.Reply.{Reply}
 use Rattle.office_deliveries.specs.declared.arrival.Arrival.{Arrival}
-use Rattle.office_deliveries.specs.Deliveries.{Opening, Delivery, First, came, is_write, is_first, firsts, now, told}
+use Rattle.office_deliveries.specs.Deliveries.{Opening, Delivery, First, came, is_write, is_first, firsts, now, answer_told}
 use Rattle.model_answers.specs.KeptAnswers.{has_key, a_day}
 
 -- it shows the key of that arrival, and its token
@@ -34,7 +34,7 @@ ToldAgain words t =
     let till_later = t.before ++ came t.earlier ∷ t.between in
     is_first p (firsts p t.before) (came t.earlier) ≡ true → HasTheKeyOf t.earlier t.later
     → now p (firsts p till_later) t.later < now p (firsts p t.before) t.earlier + a_day
-    → told words p till_later (came t.later) ≡ told words p t.before (came t.earlier)
+    → answer_told words p till_later (came t.later) ≡ answer_told words p t.before (came t.earlier)
 
 -- Where a day has passed and no other request with the key came between, it is executed anew.
 abbrev pub ExecutedAnew : TwoArrivals → Type 0

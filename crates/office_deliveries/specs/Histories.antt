@@ -8,8 +8,8 @@ use Rattle.model_invariant.specs.Sound.{IsSound}
 use Rattle.model_commands.specs.declared.replies.Reply.{Reply}
 use Rattle.office_deliveries.specs.declared.arrival.Arrival.{Arrival}
 use Rattle.model_answers.specs.declared.kept.Kept.{Kept}
-use Rattle.office_deliveries.specs.Deliveries.{Opening, Delivery, came, turned_away, is_write, is_first, firsts, told}
-use Rattle.office_deliveries.specs.Shops.{Views, executes, served}
+use Rattle.office_deliveries.specs.Deliveries.{Opening, Delivery, came, turned_away, is_write, is_first, firsts, answer_told}
+use Rattle.office_deliveries.specs.Shops.{Views, executes, arrival_served}
 use Rattle.model_answers.specs.ShopView.{ShopView, IsSame}
 
 -- what a history has one after another: an arrival, answered or not, or a crash
@@ -38,33 +38,33 @@ pub record Running : Type 0 where
 module _ (words : Reply → Response) where
   -- what a crash may leave: the shop as it is, or with one undecided write carried out
   abbrev pub MayLeave : Running → ShopView → Type 0
-  MayLeave r left = (left ≡ r.shop) ⊎ ((a : Arrival) × IsAmong a r.undecided × (left ≡ (served words a r.shop).0))
+  MayLeave r left = (left ≡ r.shop) ⊎ ((a : Arrival) × IsAmong a r.undecided × (left ≡ (arrival_served words a r.shop).0))
 
   -- the shop as an answered arrival leaves it; once a write is executed no older one is undecided
   abbrev pub after_answer : Arrival → Running → Running
-  after_answer a r = record { shop = (served words a r.shop).0; undecided = if executes a r.shop then [] else r.undecided }
+  after_answer a r = record { shop = (arrival_served words a r.shop).0; undecided = if executes a r.shop then [] else r.undecided }
 
   -- an arrival that isn't answered, or with 503, leaves the shop; where it is a write, that is undecided
   abbrev pub after_none : Arrival → Running → Running
   after_none a r = record r { undecided = also_undecided a r.undecided }
 
   -- a shop that was opened has no undecided writes
-  abbrev pub opened : ShopView → Running
-  opened left = record { shop = left; undecided = [] }
+  abbrev pub running_from : ShopView → Running
+  running_from left = record { shop = left; undecided = [] }
 
   -- what may happen to a running shop, one event after another
   abbrev pub Happens : Running → List Event → Running → Type 0
   Happens r [] end = end ≡ r
-  Happens r (Answered a told ∷ es) end = (told ≡ (served words a r.shop).1) × Happens (after_answer a r) es end
+  Happens r (Answered a told ∷ es) end = (told ≡ (arrival_served words a r.shop).1) × Happens (after_answer a r) es end
   Happens r (Unanswered a ∷ es) end = Happens (after_none a r) es end
-  Happens r (Crashed ∷ es) end = (left : ShopView) × MayLeave r left × Happens (opened left) es end
+  Happens r (Crashed ∷ es) end = (left : ShopView) × MayLeave r left × Happens (running_from left) es end
 
   -- The list of arrivals that a history comes to: each crash takes at most one undecided write as in, run at the crash; all
   -- other undecided writes are out. And each answer is the one that is told.
   abbrev pub ComesTo : Opening → List Delivery → List Arrival → List Event → List Delivery → Type 0
   ComesTo p ds open_ [] whole = whole ≡ ds
   ComesTo p ds open_ (Answered a answer ∷ es) whole =
-      (told words p ds (came a) ≡ Decided answer) × ComesTo p (ds ++ came a ∷ []) (if is_first p (firsts p ds) (came a) then [] else open_) es whole
+      (answer_told words p ds (came a) ≡ Decided answer) × ComesTo p (ds ++ came a ∷ []) (if is_first p (firsts p ds) (came a) then [] else open_) es whole
   ComesTo p ds open_ (Unanswered a ∷ es) whole = ComesTo p (ds ++ turned_away a ∷ []) (also_undecided a open_) es whole
   ComesTo p ds open_ (Crashed ∷ es) whole = ComesTo p ds [] es whole ⊎ ((a : Arrival) × IsAmong a open_ × ComesTo p (ds ++ came a ∷ []) [] es whole)
 
@@ -83,12 +83,12 @@ module _ (words : Reply → Response) where
 
   -- the event that an arrival is which was answered so, whatever the words were: it is told in these
   abbrev pub event_of : Arrival → Answer → ShopView → Event
-  event_of a (Decided answer) shop = Answered a (served words a shop).1
+  event_of a (Decided answer) shop = Answered a (arrival_served words a shop).1
   event_of a Unavailable shop = Unanswered a
 
   -- what was told is what the shop tells
   abbrev pub TellsIt : Arrival → Answer → ShopView → Type 0
-  TellsIt a (Decided answer) shop = answer ≡ (served words a shop).1
+  TellsIt a (Decided answer) shop = answer ≡ (arrival_served words a shop).1
   TellsIt a Unavailable shop = ⊤
 
 -- tables that a crash left were opened: they hold what was left, and a further crash leaves nothing else

@@ -7,7 +7,7 @@ use Rattle.model_rows.specs.Lists.{State}
 use Rattle.model_commands.specs.declared.replies.Reply.{Reply}
 use Rattle.office_deliveries.specs.declared.arrival.Arrival.{Arrival}
 use Rattle.model_answers.specs.declared.kept.Kept.{Kept}
-use Rattle.office_deliveries.specs.Deliveries.{Opening, Delivery, First, came, turned_away, done, is_write, held_for, firsts, office, kept}
+use Rattle.office_deliveries.specs.Deliveries.{Opening, Delivery, First, came, turned_away, request_done, is_write, held_for, firsts, office, answers_kept}
 use Rattle.model_answers.specs.KeptAnswers.{AreOneForEachKey}
 use Rattle.model_answers.specs.ShopView.{ShopView, own_row, with_kept}
 use Rattle.std.specs.List.{AllByRecursion}
@@ -22,15 +22,15 @@ abbrev pub own : Arrival → ℕ → Response → List Kept
 own a at told = own_row (record { token = a.token; key = a.key; at = at; response = told })
 
 -- an arrival with its answer
-abbrev pub delivered : Arrival → Answer → Delivery
-delivered a (Decided told) = came a
-delivered a Unavailable = turned_away a
+abbrev pub arrival_delivered : Arrival → Answer → Delivery
+arrival_delivered a (Decided told) = came a
+arrival_delivered a Unavailable = turned_away a
 
 -- arrivals beside their answers, in order, as far as there are both
 abbrev pub delivered_all : List Arrival → List Answer → List Delivery
 delivered_all [] answers = []
 delivered_all (a ∷ more) [] = []
-delivered_all (a ∷ more) (answer ∷ answers) = delivered a answer ∷ delivered_all more answers
+delivered_all (a ∷ more) (answer ∷ answers) = arrival_delivered a answer ∷ delivered_all more answers
 
 -- These tables and this office are those of the shop.
 pub record Views {T : Type 0} (holds : T → State → List Kept → Type 0) (tables : T) (state : State) (v : ShopView) : Type 0 where
@@ -46,7 +46,7 @@ module _ (words : Reply → Response) where
   -- a write that is executed at a moment
   abbrev pub executed_at : Arrival → ℕ → ShopView → ShopView × Response
   executed_at a at shop =
-      let made = done words a.request at a.draw shop.state in
+      let made = request_done words a.request at a.draw shop.state in
       (record { state = made.0; kept = with_kept at shop.kept (own a at made.1) }, made.1)
 
   -- a write that is executed at the moment of its arrival
@@ -59,25 +59,25 @@ module _ (words : Reply → Response) where
   acted_by None a shop = execute a shop
 
   -- a write: a repeat gets the answer that is kept for its key, and any other is executed
-  abbrev pub acted : Arrival → ShopView → ShopView × Response
-  acted a shop = acted_by (held_for a (moment_of shop a) shop.kept) a shop
+  abbrev pub write_served : Arrival → ShopView → ShopView × Response
+  write_served a shop = acted_by (held_for a (moment_of shop a) shop.kept) a shop
 
   -- a read
-  abbrev pub shown : Arrival → ShopView → Response
-  shown a shop = (done words a.request (moment_of shop a) a.draw shop.state).1
+  abbrev pub read_served : Arrival → ShopView → Response
+  read_served a shop = (request_done words a.request (moment_of shop a) a.draw shop.state).1
 
   -- whichever it is
-  abbrev pub served : Arrival → ShopView → ShopView × Response
-  served a shop = if is_write a.request then acted a shop else (shop, shown a shop)
+  abbrev pub arrival_served : Arrival → ShopView → ShopView × Response
+  arrival_served a shop = if is_write a.request then write_served a shop else (shop, read_served a shop)
 
   -- where it was answered 503 nothing has changed
   abbrev pub Serves : Arrival → ShopView → Answer → ShopView → Type 0
-  Serves a old (Decided told) new = (new ≡ (served a old).0) × (told ≡ (served a old).1)
+  Serves a old (Decided told) new = (new ≡ (arrival_served a old).0) × (told ≡ (arrival_served a old).1)
   Serves a old Unavailable new = new ≡ old
 
   -- an arrival's answer: this is what it leads to, and what is told; at 503 nothing has changed
   abbrev pub IsAnswered : Arrival → ShopView → Answer → (ShopView → Type 0) → Type 0
-  IsAnswered a old (Decided told) Leads = Leads (served a old).0 × (told ≡ (served a old).1)
+  IsAnswered a old (Decided told) Leads = Leads (arrival_served a old).0 × (told ≡ (arrival_served a old).1)
   IsAnswered a old Unavailable Leads = Leads old
 
   -- one arrival after another
@@ -88,17 +88,17 @@ module _ (words : Reply → Response) where
   ServesAll (a ∷ more) old (answer ∷ answers) new = (mid : ShopView) × Serves a old answer mid × ServesAll more mid answers new
 
   -- the shop that stands for these executed writes
-  abbrev pub stood : Opening → List First → ShopView
-  stood p fs = record { state = office words p fs; kept = kept words p fs }
+  abbrev pub shop_after : Opening → List First → ShopView
+  shop_after p fs = record { state = office words p fs; kept = answers_kept words p fs }
 
   -- the shop stands for a list of arrivals: its office is that of the writes that are executed, and so are its kept answers
   pub record Stands (p : Opening) (ds : List Delivery) (shop : ShopView) : Type 0 where
     pub office : shop.state ≡ office words p (firsts p ds)
-    pub kept : shop.kept ≡ kept words p (firsts p ds)
+    pub kept : shop.kept ≡ answers_kept words p (firsts p ds)
 
   -- these tables and this office are those of a shop that stands for a list of arrivals
   abbrev pub StandsFor : {T : Type 0} → (T → State → List Kept → Type 0) → T → State → Opening → List Delivery → Type 0
-  StandsFor holds tables state p ds = Views holds tables state (stood p (firsts p ds))
+  StandsFor holds tables state p ds = Views holds tables state (shop_after p (firsts p ds))
 
 -- this holds, unless the answer is 503
 abbrev pub IsDecided : Answer → Type 0 → Type 0

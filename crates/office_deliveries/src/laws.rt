@@ -6,12 +6,12 @@ ghost use Rattle.base_values.specs.declared.answer.Response.{Response};
 ghost use Rattle.model_rows.specs.Lists.{State};
 ghost use Rattle.model_commands.specs.declared.replies.Reply.{Reply};
 ghost use Rattle.office_deliveries.specs.declared.arrival.Arrival.{Arrival};
-ghost use Rattle.office_deliveries.specs.Deliveries.{Delivery, Opening, firsts, kept, told_after};
+ghost use Rattle.office_deliveries.specs.Deliveries.{Delivery, Opening, firsts, answers_kept, told_after};
 ghost use Rattle.model_answers.specs.KeptAnswers.{AreOneForEachKey};
 ghost use Rattle.model_answers.specs.ShopView.{ShopView};
-ghost use Rattle.office_deliveries.specs.Shops.{ServesAll, Stands, delivered_all, stood};
+ghost use Rattle.office_deliveries.specs.Shops.{ServesAll, Stands, delivered_all, shop_after};
 ghost use Rattle.office_deliveries.specs.Headline.{TwoArrivals, ToldAgain, ExecutedAnew, AreADayApart};
-ghost use Rattle.office_deliveries.specs.Histories.{Event, Running, Happens, ComesTo, MayLeave, IsRunning, Reopened, after_act, event_of, opened};
+ghost use Rattle.office_deliveries.specs.Histories.{Event, Running, Happens, ComesTo, MayLeave, IsRunning, Reopened, after_act, event_of, running_from};
 ghost use Rattle.office_deliveries.specs.Shops.{AreKeyless};
 
 use model_answers::Tables;
@@ -28,7 +28,7 @@ pub fn answers_are_those_of_one_run()
 
 /// The shop of an opening stands for no arrival yet.
 pub fn openings_stand()
-    ensures { (words : Reply → Response) (p : Opening) → Stands words p [] (stood words p []) }
+    ensures { (words : Reply → Response) (p : Opening) → Stands words p [] (shop_after words p []) }
 {}
 
 /// A repeat that comes before a day has passed since its first arrival was executed is told what that was told, whatever it
@@ -50,7 +50,7 @@ pub fn executions_are_a_day_apart()
 /// No token has a key twice among what is kept, so that an arrival repeats one answer at most.
 pub fn one_answer_for_each_key()
     ensures { (words : Reply → Response) (p : Opening) (ds : List Delivery)
-        → AreOneForEachKey p.kept → AreOneForEachKey (kept words p (firsts p ds)) }
+        → AreOneForEachKey p.kept → AreOneForEachKey (answers_kept words p (firsts p ds)) }
 {}
 
 /// Whatever happens to a shop, with crashes at any moments, after each of which it is opened again: it stands for the list
@@ -58,7 +58,7 @@ pub fn one_answer_for_each_key()
 /// all; and each answer is the one that is told of that list. Each write that was answered other than 503 is in it.
 pub fn histories_come_to_one_run()
     ensures { (words : Reply → Response) (p : Opening) (events : List Event) (end : Running)
-        → Happens words (opened words (stood words p [])) events end
+        → Happens words (running_from words (shop_after words p [])) events end
         → (whole : List Delivery) × ComesTo words p [] [] events whole
         × Stands words p whole end.shop }
 {}
@@ -71,7 +71,7 @@ pub fn reopened_shops_run<T: Tables>()
         → IsRunning words T.holds T.may_leave before state r
         → Reopened T.holds T.may_leave before after left
         → (x : ShopView) × MayLeave words r x
-        × IsRunning words T.holds T.may_leave after left.state (opened words x) }
+        × IsRunning words T.holds T.may_leave after left.state (running_from words x) }
 {}
 
 /// What is answered without a key is kept nowhere, so a shop is the same in whatever words it is told. A running shop whose undecided

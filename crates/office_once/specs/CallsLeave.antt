@@ -11,13 +11,13 @@ use Rattle.model_answers.specs.House.{House}
 use Rattle.model_answers.specs.ShopView.{ShopView, IsSame}
 use Rattle.model_commands.specs.declared.replies.Reply.{Reply}
 use Rattle.model_invariant.specs.Sound.{IsSound}
-use Rattle.model_rows.specs.Change.{applied}
+use Rattle.model_rows.specs.Change.{changes_applied}
 use Rattle.model_rows.specs.Lists.{State}
 use Rattle.office_deliveries.specs.declared.arrival.Arrival.{Arrival}
 use Rattle.office_deliveries.specs.declared.arrival.Request.{Request}
-use Rattle.office_deliveries.specs.Deliveries.{Opening, Delivery, done, told}
+use Rattle.office_deliveries.specs.Deliveries.{Opening, Delivery, request_done, answer_told}
 use Rattle.office_deliveries.specs.Histories.{Running, IsRunning, TellsIt, after_act}
-use Rattle.office_deliveries.specs.Shops.{Views, StandsFor, IsAnswered, IsDecided, delivered, executes, served}
+use Rattle.office_deliveries.specs.Shops.{Views, StandsFor, IsAnswered, IsDecided, arrival_delivered, executes, arrival_served}
 use Rattle.office_step.specs.IsStep.{HasShifts}
 use Rattle.office_once.specs.OpenShop.{OpenShop}
 
@@ -39,13 +39,13 @@ MayLeaveMade holds may_leave old new made =
 abbrev pub LeavesServed : {T W : Type 0} → (Reply → Response) → (T → State → List Kept → Type 0) → (T → ShopView → Type 0) → Arrival → OpenShop T W → OpenShop T W → Type 0
 LeavesServed words holds may_leave a old new =
     (v : ShopView) → Views holds old.tables old.state v → executes a v ≡ true
-    → (left : ShopView) → may_leave new.tables left → IsSame left (served words a v).0
+    → (left : ShopView) → may_leave new.tables left → IsSame left (arrival_served words a v).0
 
 -- a shop that stood for a list of arrivals stands for it with this one behind it, which was answered as is told of that list
 abbrev pub StandsWith : {T W : Type 0} → (Reply → Response) → (T → State → List Kept → Type 0) → Arrival → Answer → OpenShop T W → OpenShop T W → Type 0
 StandsWith words holds a answer old new =
     (p : Opening) (ds : List Delivery) → StandsFor words holds old.tables old.state p ds
-    → StandsFor words holds new.tables new.state p (ds ++ delivered a answer ∷ []) × (told words p ds (delivered a answer) ≡ answer)
+    → StandsFor words holds new.tables new.state p (ds ++ arrival_delivered a answer ∷ []) × (answer_told words p ds (arrival_delivered a answer) ≡ answer)
 
 -- a shop that was running runs on with this arrival, and tells what the shop tells
 abbrev pub RunsOn : {T W : Type 0} → (Reply → Response) → (T → State → List Kept → Type 0) → (T → ShopView → Type 0) → Arrival → Answer → OpenShop T W → OpenShop T W → Type 0
@@ -55,8 +55,8 @@ RunsOn words holds may_leave a answer old new =
 
 -- it changes this and tells this, as the request asks for; what that leaves is sound, and its counts shift so
 pub record Decides (words : Reply → Response) (request : Request) (at : ℕ) (draw : Draw) (state : State) (drafted : Drafted) (response : Response) : Type 0 where
-  pub made : (let both : State × Response = (applied drafted.changes at state, response) in both ≡ done words request at draw state)
-  pub sound : IsSound (applied drafted.changes at state)
+  pub made : (let both : State × Response = (changes_applied drafted.changes at state, response) in both ≡ request_done words request at draw state)
+  pub sound : IsSound (changes_applied drafted.changes at state)
   pub shifts : HasShifts at state.lists drafted
 
 module _ {T W : Type 0} (is_sure : T → Type 0) (knows : T → House → Type 0) (holds : T → State → List Kept → Type 0) (may_leave : T → ShopView → Type 0) where
@@ -77,5 +77,5 @@ module _ {T W : Type 0} (is_sure : T → Type 0) (knows : T → House → Type 0
     pub sure : is_sure new.tables → is_sure old.tables
     pub house : KnowsStill is_sure knows old.tables new.tables
     pub answered : OfItsShop is_sure holds old new (λ v. IsAnswered words a v answer (λ w. Views holds new.tables new.state w))
-    pub crash : is_sure new.tables → MayLeaveMade holds may_leave old new (λ v. (served words a v).0)
+    pub crash : is_sure new.tables → MayLeaveMade holds may_leave old new (λ v. (arrival_served words a v).0)
     pub settled : is_sure new.tables → IsDecided answer (LeavesServed words holds may_leave a old new)

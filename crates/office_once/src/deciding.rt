@@ -1,12 +1,12 @@
 //! What a write changes, and what it is told.
 
 ghost use Rattle.std.specs.Prelude.{◌≡◌, ◌≤◌, IfOk, true};
-ghost use Rattle.model_rows.specs.Change.{applied};
+ghost use Rattle.model_rows.specs.Change.{changes_applied};
 ghost use Rattle.model_rows.specs.CountRows.{counts_after};
 ghost use Rattle.model_invariant.specs.Sound.{IsSound};
 ghost use Rattle.office_step.specs.IsStep.{HasShifts};
 ghost use Rattle.office_deliveries.specs.declared.arrival.Request.TheVariants.{Write};
-ghost use Rattle.office_deliveries.specs.Deliveries.{is_write, done};
+ghost use Rattle.office_deliveries.specs.Deliveries.{is_write, request_done};
 ghost use Rattle.office_once.specs.CallsLeave.{Decides};
 
 use crate::shop::Shop;
@@ -41,9 +41,9 @@ impl<T: Tables, B: Dues, W: Wording> Shop<T, B, W> {
     // What a write changes that was refused before it was a command: its moment alone.
     fn pass(&self, alloc: Global, at: Moment) -> Drafted
         requires { self.now.state.moment ≤ at }
-        ensures passed { applied result.changes at self.now.state
+        ensures passed { changes_applied result.changes at self.now.state
             ≡ record self.now.state { moment = at } }
-        ensures sound { IsSound (applied result.changes at self.now.state) }
+        ensures sound { IsSound (changes_applied result.changes at self.now.state) }
         ensures shifts { HasShifts at self.now.state.lists result }
     {
         let next = self.office.book().next_ids();
@@ -89,11 +89,11 @@ impl<T: Tables, B: Dues, W: Wording> Shop<T, B, W> {
     ) -> Result<(Changes, CountRows, Response), AllocError>
         requires write { is_write request ≡ true }
         requires later { self.now.state.moment ≤ at }
-        ensures done { IfOk result (λ r. (applied r.0 at self.now.state, r.2)
-            ≡ done (W.words self.now.wording) request at draw self.now.state) }
-        ensures sound { IfOk result (λ r. IsSound (applied r.0 at self.now.state)) }
+        ensures done { IfOk result (λ r. (changes_applied r.0 at self.now.state, r.2)
+            ≡ request_done (W.words self.now.wording) request at draw self.now.state) }
+        ensures sound { IfOk result (λ r. IsSound (changes_applied r.0 at self.now.state)) }
         ensures counts { IfOk result (λ r. r.1
-            ≡ counts_after self.now.state (applied r.0 at self.now.state)) }
+            ≡ counts_after self.now.state (changes_applied r.0 at self.now.state)) }
     {
         let (drafted, response) = self.decide(alloc, at, draw, request)?;
         let Drafted { changes, shifts } = drafted;

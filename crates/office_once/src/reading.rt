@@ -2,7 +2,7 @@
 
 ghost use Rattle.std.specs.Prelude.{◌≡◌, IfOk, false};
 ghost use Rattle.model_answers.specs.ShopView.{ShopView};
-ghost use Rattle.office_deliveries.specs.Deliveries.{is_write, done};
+ghost use Rattle.office_deliveries.specs.Deliveries.{is_write, request_done};
 ghost use Rattle.office_deliveries.specs.Histories.{Running, IsRunning, TellsIt, after_act};
 ghost use Rattle.office_deliveries.specs.Shops.{Views, IsAnswered, moment_at};
 ghost use Rattle.office_once.specs.CallsLeave.{StandsWith};
@@ -16,11 +16,11 @@ use std::alloc::{AllocError, Global};
 
 impl<T: Tables, B: Book, W: Wording> Shop<T, B, W> {
     // What a read is told, in words.
-    #[tactic(auto, unfolding(office_deliveries::specs::Deliveries::done))]
+    #[tactic(auto, unfolding(office_deliveries::specs::Deliveries::request_done))]
     fn show(&self, alloc: Global, arrival: Arrival) -> Result<Response, AllocError>
         requires { is_write arrival.request ≡ false }
         ensures { IfOk result (λ response. response
-            ≡ (done (W.words self.now.wording) arrival.request
+            ≡ (request_done (W.words self.now.wording) arrival.request
             (moment_at arrival.clock self.now.state) arrival.draw self.now.state).1) }
     {
         let at = self.moment_at(arrival.clock);

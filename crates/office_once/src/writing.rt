@@ -4,9 +4,9 @@ ghost use Rattle.std.specs.Prelude.{◌≡◌, ◌≤◌, None, IfOk, OnOk, OnEr
 ghost use Rattle.base_values.specs.declared.answer.Answer.TheVariants.{Unavailable};
 ghost use Rattle.model_answers.specs.CallsLeave.{KnowsStill};
 ghost use Rattle.model_answers.specs.KeptAnswers.{told_by};
-ghost use Rattle.model_answers.specs.ShopView.{ShopView, IsSame, listed, own_row};
+ghost use Rattle.model_answers.specs.ShopView.{ShopView, IsSame, kept_listed, own_row};
 ghost use Rattle.office_deliveries.specs.Deliveries.{is_write};
-ghost use Rattle.office_deliveries.specs.Shops.{Views, IsAnswered, IsDecided, served, executed_at};
+ghost use Rattle.office_deliveries.specs.Shops.{Views, IsAnswered, IsDecided, arrival_served, executed_at};
 ghost use Rattle.office_once.specs.CallsLeave.{OfItsShop, MayLeaveMade, LeavesServed, StandsWith, RunsOn, OnlyAsks, Writes};
 
 use crate::shop::Shop;
@@ -127,7 +127,7 @@ impl<T: Tables, B: Dues, W: Wording> Shop<T, B, W> {
         ensures running { T.sure self.new.tables → RunsOn (W.words self.old.wording)
             T.holds T.may_leave arrival result self.old self.new }
         ensures crash { T.sure self.new.tables → MayLeaveMade T.holds T.may_leave self.old self.new
-            (λ v. (served (W.words self.old.wording) arrival v).0) }
+            (λ v. (arrival_served (W.words self.old.wording) arrival v).0) }
         ensures settled { T.sure self.new.tables → IsDecided result (LeavesServed
             (W.words self.old.wording) T.holds T.may_leave arrival self.old self.new) }
     {
@@ -139,7 +139,7 @@ impl<T: Tables, B: Dues, W: Wording> Shop<T, B, W> {
 
 // An answer, if it is under a key.
 fn to_keep(kept: &Kept) -> Option<&Kept>
-    ensures { listed result ≡ own_row kept.now }
+    ensures { kept_listed result ≡ own_row kept.now }
 {
     if kept.key.is_empty() {
         None

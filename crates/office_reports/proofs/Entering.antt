@@ -17,9 +17,9 @@ use Rattle.decide_door.specs.Last.{checkins_of, has_entry, is_of}
 use Rattle.decide_door.specs.Status.{has_entered, is_inside}
 use Rattle.office_reports.specs.declared.entries.Entries.{Entries}
 use Rattle.office_reports.specs.declared.entries.ItemEntries.{ItemEntries}
-use Rattle.office_reports.specs.Entered.{come, entries_of, item_entries, items_on}
+use Rattle.office_reports.specs.Entered.{visitors_come, entries_of, item_entries, items_on}
 use Rattle.office_reports.specs.Counted.{all_entries}
-use Rattle.office_reports.specs.Counted.{AllAtMost, AreAtMost, counted, counted_all, counted_where, one_if, unvisited, with_ticket}
+use Rattle.office_reports.specs.Counted.{AllAtMost, AreAtMost, position_counted, counted_all, counted_where, one_if, item_unvisited, with_ticket}
 use Rattle.base_sorted.proofs.Mapped.{map_two, map_absent, map_set, mapped_in_order}
 
 at_most_weaker : (n m : ℕ) (e : Entries) → n ≤ m → AreAtMost n e → AreAtMost m e
@@ -30,12 +30,12 @@ all_at_most_weaker n m [] le few = tt
 all_at_most_weaker n m (r ∷ rs) le few = (at_most_weaker n m r.entries le few.0, all_at_most_weaker n m rs le few.1)
 
 -- before any position
-pub none_at_most : (items : List Item) → AllAtMost 0 (map unvisited items)
+pub none_at_most : (items : List Item) → AllAtMost 0 (map item_unvisited items)
 none_at_most [] = tt
 none_at_most (i ∷ is) = (record { positions = omega arith; entered = omega arith; inside = omega arith }, none_at_most is)
 
-pub unvisited_in_order : (test : Item → Bool) (n : ℕ) (items : List Item) → InOrderFrom (λ i. i.id) n items → InOrderFrom (λ s. s.item) n (map unvisited (filter test items))
-unvisited_in_order test n items h = mapped_in_order (λ (i : Item). i.id) (λ (s : ItemEntries). s.item) unvisited (λ i. refl) n (filter test items) (filter_in_order (λ (i : Item). i.id) test n items h)
+pub unvisited_in_order : (test : Item → Bool) (n : ℕ) (items : List Item) → InOrderFrom (λ i. i.id) n items → InOrderFrom (λ s. s.item) n (map item_unvisited (filter test items))
+unvisited_in_order test n items h = mapped_in_order (λ (i : Item). i.id) (λ (s : ItemEntries). s.item) item_unvisited (λ i. refl) n (filter test items) (filter_in_order (λ (i : Item). i.id) test n items h)
 
 -- what a position's check-ins say of it, all of them or its own
 pub own_entry : (list position : ℕ) (cs : List Checkin) → has_entry list position (checkins_of list position cs) ≡ has_entry list position cs
@@ -62,54 +62,54 @@ module _ (item : ℕ) (entered inside : Bool) where
   abbrev counted_by : Bool → ItemEntries → ItemEntries
   counted_by b s = if b then record s { entries = with_ticket entered inside s.entries } else s
 
-  counted_item : (s : ItemEntries) → (counted item entered inside s).item ≡ s.item
-  unfolding counted
+  counted_item : (s : ItemEntries) → (position_counted item entered inside s).item ≡ s.item
+  unfolding position_counted
   counted_item s = by_test (eqb item s.item)
     where
       by_test : (b : Bool) → (counted_by b s).item ≡ s.item
       by_test true = refl
       by_test false = refl
 
-  counted_apart : (s : ItemEntries) → s.item ≢ item → counted item entered inside s ≡ s
-  unfolding counted
+  counted_apart : (s : ItemEntries) → s.item ≢ item → position_counted item entered inside s ≡ s
+  unfolding position_counted
   counted_apart s apart = by_test (eqb item s.item) refl
     where
       by_test : (b : Bool) → eqb item s.item ≡ b → counted_by b s ≡ s
       by_test true e = absurd (apart (grind (arith, nat_tests, e)))
       by_test false e = refl
 
-  counted_there : (s : ItemEntries) → s.item ≡ item → counted item entered inside s ≡ counted_by true s
-  unfolding counted
+  counted_there : (s : ItemEntries) → s.item ≡ item → position_counted item entered inside s ≡ counted_by true s
+  unfolding position_counted
   counted_there s is = by_test (eqb item s.item) refl
     where
       by_test : (b : Bool) → eqb item s.item ≡ b → counted_by b s ≡ counted_by true s
       by_test true e = refl
       by_test false e = absurd (grind (arith, nat_tests, e, is))
 
-  pub counted_here : (rows : List ItemEntries) (i : ℕ) (d : ItemEntries) → AreInOrder (λ s. s.item) rows → IsPlace (λ s. s.item) rows item i → set rows i (counted_by true (get_or rows i d)) ≡ map (counted item entered inside) rows
+  pub counted_here : (rows : List ItemEntries) (i : ℕ) (d : ItemEntries) → AreInOrder (λ s. s.item) rows → IsPlace (λ s. s.item) rows item i → set rows i (counted_by true (get_or rows i d)) ≡ map (position_counted item entered inside) rows
   counted_here rows i d h p =
       ap (set rows i) (sym (counted_there (get_or rows i d) (p.has_id d)))
-      ∙ map_set (λ (s : ItemEntries). s.item) (counted item entered inside) item counted_apart 0 rows i d h p
+      ∙ map_set (λ (s : ItemEntries). s.item) (position_counted item entered inside) item counted_apart 0 rows i d h p
 
-  pub counted_nowhere : (rows : List ItemEntries) → row_at (λ s. s.item) item rows ≡ None → map (counted item entered inside) rows ≡ rows
-  counted_nowhere rows e = map_absent (λ (s : ItemEntries). s.item) (counted item entered inside) item counted_apart rows e
+  pub counted_nowhere : (rows : List ItemEntries) → row_at (λ s. s.item) item rows ≡ None → map (position_counted item entered inside) rows ≡ rows
+  counted_nowhere rows e = map_absent (λ (s : ItemEntries). s.item) (position_counted item entered inside) item counted_apart rows e
 
-  counted_in_order : (rows : List ItemEntries) → AreInOrder (λ s. s.item) rows → AreInOrder (λ s. s.item) (map (counted item entered inside) rows)
-  counted_in_order rows h = mapped_in_order (λ (s : ItemEntries). s.item) (λ (s : ItemEntries). s.item) (counted item entered inside) counted_item 0 rows h
+  counted_in_order : (rows : List ItemEntries) → AreInOrder (λ s. s.item) rows → AreInOrder (λ s. s.item) (map (position_counted item entered inside) rows)
+  counted_in_order rows h = mapped_in_order (λ (s : ItemEntries). s.item) (λ (s : ItemEntries). s.item) (position_counted item entered inside) counted_item 0 rows h
 
   one_at_most : (b : Bool) → one_if b ≤ 1
   one_at_most true = omega arith
   one_at_most false = omega arith
 
-  counted_at_most : (n : ℕ) (s : ItemEntries) → AreAtMost n s.entries → AreAtMost (n + 1) (counted item entered inside s).entries
-  unfolding counted
+  counted_at_most : (n : ℕ) (s : ItemEntries) → AreAtMost n s.entries → AreAtMost (n + 1) (position_counted item entered inside s).entries
+  unfolding position_counted
   counted_at_most n s few = by_test (eqb item s.item)
     where
       by_test : (b : Bool) → AreAtMost (n + 1) (counted_by b s).entries
       by_test true = record { positions = omega (arith, few.positions); entered = omega (arith, few.entered, one_at_most entered); inside = omega (arith, few.inside, one_at_most inside) }
       by_test false = at_most_weaker n (n + 1) s.entries (omega arith) few
 
-  all_counted_at_most : (n : ℕ) (rows : List ItemEntries) → AllAtMost n rows → AllAtMost (n + 1) (map (counted item entered inside) rows)
+  all_counted_at_most : (n : ℕ) (rows : List ItemEntries) → AllAtMost n rows → AllAtMost (n + 1) (map (position_counted item entered inside) rows)
   all_counted_at_most n [] few = tt
   all_counted_at_most n (r ∷ rs) few = (counted_at_most n r few.0, all_counted_at_most n rs few.1)
 
@@ -125,9 +125,9 @@ pub nowhere : (list : CheckinList) (lists : Lists) (p : OrderPos) (b : Bool) (ro
 nowhere list lists p b rows e = sym (map-id rows) ∙ ap (λ (x : Bool). map (counted_where x list lists p) rows) (sym e)
 
 pub somewhere : (list : CheckinList) (lists : Lists) (p : OrderPos) (b entered inside : Bool) (rows after : List ItemEntries) → b ≡ true
-    → entered ≡ has_entered list.id lists.checkins p → inside ≡ is_inside list.id lists.checkins p → after ≡ map (counted p.product.item entered inside) rows → after ≡ map (counted_where b list lists p) rows
+    → entered ≡ has_entered list.id lists.checkins p → inside ≡ is_inside list.id lists.checkins p → after ≡ map (position_counted p.product.item entered inside) rows → after ≡ map (counted_where b list lists p) rows
 somewhere list lists p b entered inside rows after e entered_is inside_is are =
-    are ∙ ap₂ (λ (x y : Bool). map (counted p.product.item x y) rows) entered_is inside_is ∙ ap (λ (x : Bool). map (counted_where x list lists p) rows) (sym e)
+    are ∙ ap₂ (λ (x y : Bool). map (position_counted p.product.item x y) rows) entered_is inside_is ∙ ap (λ (x : Bool). map (counted_where x list lists p) rows) (sym e)
 
 module _ (list : CheckinList) (lists : Lists) (all : List OrderPos) (i : ℕ) (p : OrderPos) (first rows : List ItemEntries) (at : i < length all) (is : p ≡ get_or all i p) (so_far : Counted list lists all i first rows) where
   left : drop i all ≡ p ∷ drop (i + 1) all
@@ -165,7 +165,7 @@ module _ (list : CheckinList) (lists : Lists) where
   counts_alike a b c a' b' c' p q r = ap (λ x. with_counts x b c) p ∙ ap (λ x. with_counts a' x c) q ∙ ap (λ x. with_counts a' b' x) r
 
   abbrev tally : ℕ → List OrderPos → Entries → Entries
-  tally item ps e = with_counts (e.positions + count_by (λ p. eqb p.product.item item) ps) (e.entered + come item entered_by ps) (e.inside + come item inside_by ps)
+  tally item ps e = with_counts (e.positions + count_by (λ p. eqb p.product.item item) ps) (e.entered + visitors_come item entered_by ps) (e.inside + visitors_come item inside_by ps)
 
   abbrev row_with : ℕ → Entries → ItemEntries
   row_with item e = record { item = item; entries = e }
@@ -175,8 +175,8 @@ module _ (list : CheckinList) (lists : Lists) where
   tally_behind b entered inside item ps e =
       with_counts
       (e.positions + (cond b 1 0 + count_by (λ p. eqb p.product.item item) ps))
-      (e.entered + (cond (b && entered) 1 0 + come item entered_by ps))
-      (e.inside + (cond (b && inside) 1 0 + come item inside_by ps))
+      (e.entered + (cond (b && entered) 1 0 + visitors_come item entered_by ps))
+      (e.inside + (cond (b && inside) 1 0 + visitors_come item inside_by ps))
 
   cons_tally : (item : ℕ) (p : OrderPos) (ps : List OrderPos) (e : Entries) → tally_behind (eqb p.product.item item) (entered_by p) (inside_by p) item ps e ≡ tally item (p ∷ ps) e
   cons_tally item p ps e =
@@ -195,31 +195,31 @@ module _ (list : CheckinList) (lists : Lists) where
   ticket_behind false entered inside p ps s = ap (row_with s.item) (counts_alike _ _ _ _ _ _ (omega arith) (omega arith) (omega arith))
 
   one_behind : (p : OrderPos) (ps : List OrderPos) (s : ItemEntries)
-      → row_with (counted p.product.item (entered_by p) (inside_by p) s).item (tally (counted p.product.item (entered_by p) (inside_by p) s).item ps (counted p.product.item (entered_by p) (inside_by p) s).entries)
+      → row_with (position_counted p.product.item (entered_by p) (inside_by p) s).item (tally (position_counted p.product.item (entered_by p) (inside_by p) s).item ps (position_counted p.product.item (entered_by p) (inside_by p) s).entries)
       ≡ row_with s.item (tally_behind (eqb p.product.item s.item) (entered_by p) (inside_by p) s.item ps s.entries)
-  unfolding counted
+  unfolding position_counted
   one_behind p ps s = ticket_behind (eqb p.product.item s.item) (entered_by p) (inside_by p) p ps s
 
   counted_all_is : (ps : List OrderPos) (s : ItemEntries) → counted_all list lists ps s ≡ row_with s.item (tally s.item (filter (belongs list lists) ps) s.entries)
   counted_all_is [] s = ap (row_with s.item) (counts_alike _ _ _ _ _ _ (omega arith) (omega arith) (omega arith))
-  counted_all_is (p ∷ ps) s = by_test (belongs list lists p) (counted_all_is ps (counted p.product.item (entered_by p) (inside_by p) s)) (counted_all_is ps s)
+  counted_all_is (p ∷ ps) s = by_test (belongs list lists p) (counted_all_is ps (position_counted p.product.item (entered_by p) (inside_by p) s)) (counted_all_is ps s)
     where
       by_test : (b : Bool)
-          → counted_all list lists ps (counted p.product.item (entered_by p) (inside_by p) s)
-          ≡ row_with (counted p.product.item (entered_by p) (inside_by p) s).item (tally (counted p.product.item (entered_by p) (inside_by p) s).item (filter (belongs list lists) ps) (counted p.product.item (entered_by p) (inside_by p) s).entries)
+          → counted_all list lists ps (position_counted p.product.item (entered_by p) (inside_by p) s)
+          ≡ row_with (position_counted p.product.item (entered_by p) (inside_by p) s).item (tally (position_counted p.product.item (entered_by p) (inside_by p) s).item (filter (belongs list lists) ps) (position_counted p.product.item (entered_by p) (inside_by p) s).entries)
           → counted_all list lists ps s ≡ row_with s.item (tally s.item (filter (belongs list lists) ps) s.entries)
           → counted_all list lists ps (counted_where b list lists p s) ≡ row_with s.item (tally s.item (cond b (p ∷ filter (belongs list lists) ps) (filter (belongs list lists) ps)) s.entries)
       by_test true with_it without = with_it ∙ one_behind p (filter (belongs list lists) ps) s ∙ ap (row_with s.item) (cons_tally s.item p (filter (belongs list lists) ps) s.entries)
       by_test false with_it without = without
 
-  entries_are : (item : Item) → counted_all list lists lists.positions (unvisited item) ≡ item_entries list lists item
+  entries_are : (item : Item) → counted_all list lists lists.positions (item_unvisited item) ≡ item_entries list lists item
   unfolding entries_of
-  entries_are item = counted_all_is lists.positions (unvisited item) ∙ ap (row_with item.id) (counts_alike _ _ _ _ _ _ (omega arith) (omega arith) (omega arith))
+  entries_are item = counted_all_is lists.positions (item_unvisited item) ∙ ap (row_with item.id) (counts_alike _ _ _ _ _ _ (omega arith) (omega arith) (omega arith))
 
-  each_alike : (items : List Item) → map (λ i. counted_all list lists lists.positions (unvisited i)) items ≡ map (item_entries list lists) items
+  each_alike : (items : List Item) → map (λ i. counted_all list lists lists.positions (item_unvisited i)) items ≡ map (item_entries list lists) items
   each_alike [] = refl
-  each_alike (i ∷ is) = ap (λ s. s ∷ map (λ i. counted_all list lists lists.positions (unvisited i)) is) (entries_are i) ∙ ap (λ l. item_entries list lists i ∷ l) (each_alike is)
+  each_alike (i ∷ is) = ap (λ s. s ∷ map (λ i. counted_all list lists lists.positions (item_unvisited i)) is) (entries_are i) ∙ ap (λ l. item_entries list lists i ∷ l) (each_alike is)
 
   -- counting all positions finds who came in, item by item
-  pub all_entries_are : map (counted_all list lists lists.positions) (map unvisited (items_on list lists)) ≡ all_entries list lists
-  all_entries_are = map_two unvisited (counted_all list lists lists.positions) (items_on list lists) ∙ each_alike (items_on list lists)
+  pub all_entries_are : map (counted_all list lists lists.positions) (map item_unvisited (items_on list lists)) ≡ all_entries list lists
+  all_entries_are = map_two item_unvisited (counted_all list lists lists.positions) (items_on list lists) ∙ each_alike (items_on list lists)

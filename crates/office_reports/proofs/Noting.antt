@@ -15,8 +15,8 @@ use Rattle.model_rows.specs.Conditions.{is_paid, is_pending}
 use Rattle.model_rows.specs.Lists.{Lists, order_at}
 use Rattle.office_reports.specs.declared.sales.Sales.{Sales}
 use Rattle.office_reports.specs.declared.sales.ItemSales.{ItemSales}
-use Rattle.office_reports.specs.Sold.{all_sales, earned, is_cancelled, is_expired, is_sold, item_sales, sales_of, sold, status_passes}
-use Rattle.office_reports.specs.Noted.{AreFew, IsFew, noted, noted_all, noted_if, unsold, with_sale}
+use Rattle.office_reports.specs.Sold.{all_sales, cents_earned, is_cancelled, is_expired, is_sold, item_sales, sales_of, positions_sold, status_passes}
+use Rattle.office_reports.specs.Noted.{AreFew, IsFew, sale_noted, noted_all, noted_if, unsold, with_sale}
 use Rattle.base_sorted.proofs.Mapped.{map_two, map_absent, map_set, mapped_in_order}
 
 few_weaker : (n m : ℕ) (s : Sales) → n ≤ m → IsFew n s → IsFew m s
@@ -38,16 +38,16 @@ module _ (status : Status) (item price : ℕ) where
   abbrev noted_by : Bool → ItemSales → ItemSales
   noted_by b s = if b then record s { sales = with_sale status price s.sales } else s
 
-  pub noted_item : (s : ItemSales) → (noted status item price s).item ≡ s.item
-  unfolding noted
+  pub noted_item : (s : ItemSales) → (sale_noted status item price s).item ≡ s.item
+  unfolding sale_noted
   noted_item s = by_test (eqb item s.item)
     where
       by_test : (b : Bool) → (noted_by b s).item ≡ s.item
       by_test true = refl
       by_test false = refl
 
-  noted_apart : (s : ItemSales) → s.item ≢ item → noted status item price s ≡ s
-  unfolding noted
+  noted_apart : (s : ItemSales) → s.item ≢ item → sale_noted status item price s ≡ s
+  unfolding sale_noted
   noted_apart s apart = by_test (eqb item s.item) refl
     where
       by_test : (b : Bool) → eqb item s.item ≡ b → noted_by b s ≡ s
@@ -55,24 +55,24 @@ module _ (status : Status) (item price : ℕ) where
       by_test false e = refl
 
   -- at its place the item is the one that is noted
-  noted_there : (s : ItemSales) → s.item ≡ item → noted status item price s ≡ noted_by true s
-  unfolding noted
+  noted_there : (s : ItemSales) → s.item ≡ item → sale_noted status item price s ≡ noted_by true s
+  unfolding sale_noted
   noted_there s is = by_test (eqb item s.item) refl
     where
       by_test : (b : Bool) → eqb item s.item ≡ b → noted_by b s ≡ noted_by true s
       by_test true e = refl
       by_test false e = absurd (grind (arith, nat_tests, e, is))
 
-  pub noted_here : (rows : List ItemSales) (i : ℕ) (d : ItemSales) → AreInOrder (λ s. s.item) rows → IsPlace (λ s. s.item) rows item i → set rows i (noted_by true (get_or rows i d)) ≡ map (noted status item price) rows
+  pub noted_here : (rows : List ItemSales) (i : ℕ) (d : ItemSales) → AreInOrder (λ s. s.item) rows → IsPlace (λ s. s.item) rows item i → set rows i (noted_by true (get_or rows i d)) ≡ map (sale_noted status item price) rows
   noted_here rows i d h p =
       ap (set rows i) (sym (noted_there (get_or rows i d) (p.has_id d)))
-      ∙ map_set (λ (s : ItemSales). s.item) (noted status item price) item noted_apart 0 rows i d h p
+      ∙ map_set (λ (s : ItemSales). s.item) (sale_noted status item price) item noted_apart 0 rows i d h p
 
-  pub noted_nowhere : (rows : List ItemSales) → row_at (λ s. s.item) item rows ≡ None → map (noted status item price) rows ≡ rows
-  noted_nowhere rows e = map_absent (λ (s : ItemSales). s.item) (noted status item price) item noted_apart rows e
+  pub noted_nowhere : (rows : List ItemSales) → row_at (λ s. s.item) item rows ≡ None → map (sale_noted status item price) rows ≡ rows
+  noted_nowhere rows e = map_absent (λ (s : ItemSales). s.item) (sale_noted status item price) item noted_apart rows e
 
-  pub noted_in_order : (rows : List ItemSales) → AreInOrder (λ s. s.item) rows → AreInOrder (λ s. s.item) (map (noted status item price) rows)
-  noted_in_order rows h = mapped_in_order (λ (s : ItemSales). s.item) (λ (s : ItemSales). s.item) (noted status item price) noted_item 0 rows h
+  pub noted_in_order : (rows : List ItemSales) → AreInOrder (λ s. s.item) rows → AreInOrder (λ s. s.item) (map (sale_noted status item price) rows)
+  noted_in_order rows h = mapped_in_order (λ (s : ItemSales). s.item) (λ (s : ItemSales). s.item) (sale_noted status item price) noted_item 0 rows h
 
   -- one more position raises no count by more than one, and what was paid by no more than a price
   sale_few : (n : ℕ) (s : Sales) → price ≤ last_cents → IsFew n s → IsFew (n + 1) (with_sale status price s)
@@ -84,15 +84,15 @@ module _ (status : Status) (item price : ℕ) where
       each Expired = record { paid = omega (arith, few.paid); pending = omega (arith, few.pending); expired = omega (arith, few.expired); cancelled = omega (arith, few.cancelled); amount = omega (arith, few.amount) }
       each Cancelled = record { paid = omega (arith, few.paid); pending = omega (arith, few.pending); expired = omega (arith, few.expired); cancelled = omega (arith, few.cancelled); amount = omega (arith, few.amount) }
 
-  noted_few : (n : ℕ) (s : ItemSales) → price ≤ last_cents → IsFew n s.sales → IsFew (n + 1) (noted status item price s).sales
-  unfolding noted
+  noted_few : (n : ℕ) (s : ItemSales) → price ≤ last_cents → IsFew n s.sales → IsFew (n + 1) (sale_noted status item price s).sales
+  unfolding sale_noted
   noted_few n s le few = by_test (eqb item s.item)
     where
       by_test : (b : Bool) → IsFew (n + 1) (noted_by b s).sales
       by_test true = sale_few n s.sales le few
       by_test false = few_weaker n (n + 1) s.sales (omega arith) few
 
-  pub all_noted_few : (n : ℕ) (rows : List ItemSales) → price ≤ last_cents → AreFew n rows → AreFew (n + 1) (map (noted status item price) rows)
+  pub all_noted_few : (n : ℕ) (rows : List ItemSales) → price ≤ last_cents → AreFew n rows → AreFew (n + 1) (map (sale_noted status item price) rows)
   all_noted_few n [] le few = tt
   all_noted_few n (r ∷ rs) le few = (noted_few n r le few.0, all_noted_few n rs le few.1)
 
@@ -151,17 +151,17 @@ module _ (lists : Lists) (item : ℕ) where
 
   -- with the counts over these positions
   abbrev counted : List OrderPos → Sales → Sales
-  counted ps s = with_counts (s.paid + sold item is_paid lists ps) (s.pending + sold item is_pending lists ps) (s.expired + sold item is_expired lists ps) (s.cancelled + sold item is_cancelled lists ps) (s.amount + earned item lists ps)
+  counted ps s = with_counts (s.paid + positions_sold item is_paid lists ps) (s.pending + positions_sold item is_pending lists ps) (s.expired + positions_sold item is_expired lists ps) (s.cancelled + positions_sold item is_cancelled lists ps) (s.amount + cents_earned item lists ps)
 
   -- with one position before these, by whether it is counted in each of the columns
   abbrev counted_behind : (paid pending expired cancelled : Bool) (price : ℕ) → List OrderPos → Sales → Sales
   counted_behind paid pending expired cancelled price ps s =
       with_counts
-      (s.paid + (cond paid 1 0 + sold item is_paid lists ps))
-      (s.pending + (cond pending 1 0 + sold item is_pending lists ps))
-      (s.expired + (cond expired 1 0 + sold item is_expired lists ps))
-      (s.cancelled + (cond cancelled 1 0 + sold item is_cancelled lists ps))
-      (s.amount + ((if paid then price else 0) + earned item lists ps))
+      (s.paid + (cond paid 1 0 + positions_sold item is_paid lists ps))
+      (s.pending + (cond pending 1 0 + positions_sold item is_pending lists ps))
+      (s.expired + (cond expired 1 0 + positions_sold item is_expired lists ps))
+      (s.cancelled + (cond cancelled 1 0 + positions_sold item is_cancelled lists ps))
+      (s.amount + ((if paid then price else 0) + cents_earned item lists ps))
 
   none_behind : (price : ℕ) (ps : List OrderPos) (s : Sales) → counted ps s ≡ counted_behind false false false false price ps s
   none_behind price ps s = counts_alike _ _ _ _ _ _ _ _ _ _ (omega arith) (omega arith) (omega arith) (omega arith) (omega arith)
@@ -190,7 +190,7 @@ module _ (lists : Lists) where
 
   one_behind : (p : OrderPos) (ps : List OrderPos) (o : Option Order) (s : ItemSales)
       → row_with (noted_if o p s).item (counted lists (noted_if o p s).item ps (noted_if o p s).sales) ≡ row_with s.item (behind_by lists s.item (eqb p.product.item s.item) o p.price ps s.sales)
-  unfolding noted
+  unfolding sale_noted
   one_behind p ps None s = by_test (eqb p.product.item s.item)
     where
       by_test : (b : Bool) → row_with s.item (counted lists s.item ps s.sales) ≡ row_with s.item (behind_by lists s.item b None p.price ps s.sales)

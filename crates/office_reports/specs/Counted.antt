@@ -16,8 +16,8 @@ abbrev pub nobody : Entries
 nobody = record { positions = 0; entered = 0; inside = 0 }
 
 -- an item, before any position
-abbrev pub unvisited : Item → ItemEntries
-unvisited item = record { item = item.id; entries = nobody }
+abbrev pub item_unvisited : Item → ItemEntries
+item_unvisited item = record { item = item.id; entries = nobody }
 
 -- 1 where it is true, and else 0
 abbrev pub one_if : Bool → ℕ
@@ -28,12 +28,12 @@ abbrev pub with_ticket : Bool → Bool → Entries → Entries
 with_ticket entered inside e = record { positions = e.positions + 1; entered = e.entered + one_if entered; inside = e.inside + one_if inside }
 
 -- with a position of this item
-unfoldable pub counted : ℕ → Bool → Bool → ItemEntries → ItemEntries
-counted item entered inside s = if item == s.item then record s { entries = with_ticket entered inside s.entries } else s
+unfoldable pub position_counted : ℕ → Bool → Bool → ItemEntries → ItemEntries
+position_counted item entered inside s = if item == s.item then record s { entries = with_ticket entered inside s.entries } else s
 
 -- with a position, where a test of it is passed
 abbrev pub counted_where : Bool → CheckinList → Lists → OrderPos → ItemEntries → ItemEntries
-counted_where b list lists position s = if b then counted position.product.item (has_entered list.id lists.checkins position) (is_inside list.id lists.checkins position) s else s
+counted_where b list lists position s = if b then position_counted position.product.item (has_entered list.id lists.checkins position) (is_inside list.id lists.checkins position) s else s
 
 -- with the next position, where it belongs to the list
 abbrev pub counted_next : CheckinList → Lists → OrderPos → ItemEntries → ItemEntries

@@ -10,15 +10,15 @@ use Rattle.office_reports.specs.declared.entries.Entries.{Entries}
 use Rattle.office_reports.specs.declared.entries.ItemEntries.{ItemEntries}
 
 -- how many of these positions are of the item, and pass
-abbrev pub come : ℕ → (OrderPos → Bool) → List OrderPos → ℕ
-come item test positions = count_by (λ p. p.product.item == item && test p) positions
+abbrev pub visitors_come : ℕ → (OrderPos → Bool) → List OrderPos → ℕ
+visitors_come item test positions = count_by (λ p. p.product.item == item && test p) positions
 
 -- of an item's positions that belong to the list: how many there are, have entered, and are inside
 unfoldable pub entries_of : CheckinList → Lists → Item → Entries
 entries_of list lists item = record {
   positions = count_by (λ p. p.product.item == item.id) (belonging list lists);
-  entered = come item.id (has_entered list.id lists.checkins) (belonging list lists);
-  inside = come item.id (is_inside list.id lists.checkins) (belonging list lists);
+  entered = visitors_come item.id (has_entered list.id lists.checkins) (belonging list lists);
+  inside = visitors_come item.id (is_inside list.id lists.checkins) (belonging list lists);
 }
 
 -- the items that the list is for, by id

@@ -24,13 +24,13 @@ with_sale Expired price s = record s { expired = s.expired + 1 }
 with_sale Cancelled price s = record s { cancelled = s.cancelled + 1 }
 
 -- with a position of this item, in an order of this status
-unfoldable pub noted : Status → ℕ → ℕ → ItemSales → ItemSales
-noted status item price s = if item == s.item then record s { sales = with_sale status price s.sales } else s
+unfoldable pub sale_noted : Status → ℕ → ℕ → ItemSales → ItemSales
+sale_noted status item price s = if item == s.item then record s { sales = with_sale status price s.sales } else s
 
 -- with a position, where its order stands
 abbrev pub noted_if : Option Order → OrderPos → ItemSales → ItemSales
 noted_if None position s = s
-noted_if (Some order) position s = noted order.status position.product.item position.price s
+noted_if (Some order) position s = sale_noted order.status position.product.item position.price s
 
 -- with the next position, in its order
 abbrev pub noted_next : Lists → OrderPos → ItemSales → ItemSales

@@ -34,21 +34,21 @@ abbrev pub is_sold : ℕ → (Status → Bool) → Lists → OrderPos → Bool
 is_sold item test lists position = position.product.item == item && status_passes test (order_at position.order lists)
 
 -- so many of these positions are of the item, in orders of such a status
-abbrev pub sold : ℕ → (Status → Bool) → Lists → List OrderPos → ℕ
-sold item test lists positions = count_by (is_sold item test lists) positions
+abbrev pub positions_sold : ℕ → (Status → Bool) → Lists → List OrderPos → ℕ
+positions_sold item test lists positions = count_by (is_sold item test lists) positions
 
 -- what those in paid orders cost
-abbrev pub earned : ℕ → Lists → List OrderPos → ℕ
-earned item lists positions = sum_by (λ p. if is_sold item is_paid lists p then p.price else 0) positions
+abbrev pub cents_earned : ℕ → Lists → List OrderPos → ℕ
+cents_earned item lists positions = sum_by (λ p. if is_sold item is_paid lists p then p.price else 0) positions
 
 -- an item's positions by the status of their orders, and what was paid for it
 unfoldable pub sales_of : Lists → Item → Sales
 sales_of lists item = record {
-  paid = sold item.id is_paid lists lists.positions;
-  pending = sold item.id is_pending lists lists.positions;
-  expired = sold item.id is_expired lists lists.positions;
-  cancelled = sold item.id is_cancelled lists lists.positions;
-  amount = earned item.id lists lists.positions;
+  paid = positions_sold item.id is_paid lists lists.positions;
+  pending = positions_sold item.id is_pending lists lists.positions;
+  expired = positions_sold item.id is_expired lists lists.positions;
+  cancelled = positions_sold item.id is_cancelled lists lists.positions;
+  amount = cents_earned item.id lists lists.positions;
 }
 
 -- an item's number, beside what was sold of it

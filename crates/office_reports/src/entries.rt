@@ -7,7 +7,7 @@ ghost use Rattle.model_invariant.specs.Sound.{IsSound};
 ghost use Rattle.decide_door.specs.Belongs.{is_for};
 ghost use Rattle.decide_door.specs.Status.{has_entered, is_inside};
 ghost use Rattle.office_reports.specs.Counted.{all_entries};
-ghost use Rattle.office_reports.specs.Counted.{AllAtMost, AreAtMost, counted, counted_all, counted_next, unvisited, with_ticket};
+ghost use Rattle.office_reports.specs.Counted.{AllAtMost, AreAtMost, position_counted, counted_all, counted_next, item_unvisited, with_ticket};
 
 use base_sorted::{Row, place_of};
 use book_usage::Book;
@@ -65,18 +65,18 @@ fn all_unvisited(
     list: &CheckinList,
 ) -> Result<Vec<ItemEntries>, AllocError>
     ensures { IfOk result (λ rows. rows.items
-        ≡ map unvisited (filter (λ i. is_for list.now i.id) items.now)) }
+        ≡ map item_unvisited (filter (λ i. is_for list.now i.id) items.now)) }
 {
     items
         .iter()
         .filter(|i| is_for(list, i.id))
-        .map(unvisited)
+        .map(item_unvisited)
         .collect(alloc)
 }
 
 // An item, before any position.
-fn unvisited(item: &Item) -> ItemEntries
-    ensures { result ≡ unvisited item.now }
+fn item_unvisited(item: &Item) -> ItemEntries
+    ensures { result ≡ item_unvisited item.now }
 {
     ItemEntries {
         item: item.id,
@@ -151,7 +151,7 @@ fn came<B: Book>(
 fn count(rows: &mut Vec<ItemEntries>, item: u64, entered: bool, inside: bool)
     requires order { AreInOrder (λ s. s.item) rows.old.items }
     requires few { AllAtMost most_rows rows.old.items }
-    ensures { rows.new.items ≡ map (counted item entered inside) rows.old.items }
+    ensures { rows.new.items ≡ map (position_counted item entered inside) rows.old.items }
 {
     if let Ok(at) = place_of(rows, item) {
         let row = rows[at];

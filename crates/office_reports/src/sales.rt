@@ -6,7 +6,7 @@ ghost use Rattle.base_sorted.specs.Tables.{AreInOrder};
 ghost use Rattle.model_catalogue.specs.Limits.{most_rows};
 ghost use Rattle.model_invariant.specs.Sound.{IsSound};
 ghost use Rattle.office_reports.specs.Sold.{all_sales, nothing};
-ghost use Rattle.office_reports.specs.Noted.{AreFew, IsFew, noted, noted_all, noted_next, unsold, with_sale};
+ghost use Rattle.office_reports.specs.Noted.{AreFew, IsFew, sale_noted, noted_all, noted_next, unsold, with_sale};
 
 use base_sorted::{Row, place_of};
 use book_usage::Book;
@@ -116,7 +116,7 @@ fn note(sales: &mut Vec<ItemSales>, status: Status, item: u64, price: u64)
     requires order { AreInOrder (λ s. s.item) sales.old.items }
     requires few { AreFew most_rows sales.old.items }
     requires price { price ≤ last_cents }
-    ensures { sales.new.items ≡ map (noted status item price) sales.old.items }
+    ensures { sales.new.items ≡ map (sale_noted status item price) sales.old.items }
 {
     if let Ok(at) = place_of(sales, item) {
         let row = sales[at];

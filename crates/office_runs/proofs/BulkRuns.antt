@@ -23,7 +23,7 @@ use Rattle.model_commands.specs.declared.replies.Reply.{Reply}
 use Rattle.office_step.specs.Step.{cart_step, bulk_step, step, moment_at}
 use Rattle.decide_vouchers.specs.Imported.{rows_imported}
 use Rattle.office_runs.proofs.ImportRuns.{no_later, all_alone}
-use Rattle.office_runs.specs.Runs.{Arrival, stepped, trace, alone, after_run}
+use Rattle.office_runs.specs.Runs.{Arrival, office_stepped, trace, alone, after_run}
 use Rattle.office_runs.specs.Promises.{outcome_told, outcomes_alone, RunsEntries, RunsItsEntries}
 
 -- an entry of its own leads where it leads in the call, and is told what became of it there
@@ -40,10 +40,10 @@ module _ (clock : ℕ) (draw : Draw) where
   own_step : (new : NewCart) (state : State) → min clock last_moment ≤ state.moment → cart_step state (position_added new draw state) ≡ step (AddCart new) (moment_at clock state) draw state
   own_step new state le = ap (λ at. step (AddCart new) at draw state) (no_later state clock le)
 
-  one_run : (new : NewCart) (state : State) → min clock last_moment ≤ state.moment → (entry_added (New new) draw state).0 ≡ (stepped (record { clock = clock; draw = draw; command = AddCart new }) state).after
+  one_run : (new : NewCart) (state : State) → min clock last_moment ≤ state.moment → (entry_added (New new) draw state).0 ≡ (office_stepped (record { clock = clock; draw = draw; command = AddCart new }) state).after
   one_run new state le = same_office state (position_added new draw state) ∙ ap (λ (made : State × Reply). made.0) (own_step new state le)
 
-  one_outcome : (new : NewCart) (state : State) → min clock last_moment ≤ state.moment → outcome_told (stepped (record { clock = clock; draw = draw; command = AddCart new }) state).reply ≡ Some (entry_added (New new) draw state).1
+  one_outcome : (new : NewCart) (state : State) → min clock last_moment ≤ state.moment → outcome_told (office_stepped (record { clock = clock; draw = draw; command = AddCart new }) state).reply ≡ Some (entry_added (New new) draw state).1
   one_outcome new state le = ap (λ (made : State × Reply). outcome_told made.1) (sym (own_step new state le)) ∙ same_outcome state (position_added new draw state)
 
   still : (entry : Entry) (state : State) → min clock last_moment ≤ state.moment → min clock last_moment ≤ (entry_added entry draw state).0.moment
@@ -77,7 +77,7 @@ all_of entries draw state le = by_count (nat_lt most_entries (length entries)) (
 in_range : (at last : ℕ) → min at last ≤ at
 in_range at last = omega arith
 
-runs_entries : (command : Command) (clock : ℕ) (draw : Draw) (state : State) → RunsEntries command (stepped (record { clock = clock; draw = draw; command = command }) state)
+runs_entries : (command : Command) (clock : ℕ) (draw : Draw) (state : State) → RunsEntries command (office_stepped (record { clock = clock; draw = draw; command = command }) state)
 runs_entries (AddItem new) clock draw state = tt
 runs_entries (ChangeItem id patch) clock draw state = tt
 runs_entries (AddVariation item new) clock draw state = tt
@@ -119,4 +119,4 @@ runs_entries (AddCarts entries) clock draw state = λ few.
 
 pub entries_all : (arrivals : List Arrival) (state : State) → AllByRecursion RunsItsEntries (trace arrivals state)
 entries_all [] state = tt
-entries_all (arrival ∷ arrivals) state = (runs_entries arrival.command arrival.clock arrival.draw state, entries_all arrivals (stepped arrival state).after)
+entries_all (arrival ∷ arrivals) state = (runs_entries arrival.command arrival.clock arrival.draw state, entries_all arrivals (office_stepped arrival state).after)

@@ -18,7 +18,7 @@ use Rattle.model_catalogue.specs.ItemAdded.{item_rows, item_added}
 use Rattle.model_catalogue.specs.ItemChanged.{item_changed}
 use Rattle.model_catalogue.specs.VariationAdded.{variation_added}
 use Rattle.model_catalogue.specs.QuotaAdded.{quota_added}
-use Rattle.model_catalogue.specs.Resized.{resized}
+use Rattle.model_catalogue.specs.Resized.{quota_resized}
 use Rattle.model_catalogue.proofs.Added.{item_added_is}
 use Rattle.model_rows.specs.declared.rows.CartPos.{CartPos}
 use Rattle.model_rows.specs.declared.rows.CheckinList.{CheckinList}
@@ -27,7 +27,7 @@ use Rattle.model_rows.specs.declared.rows.OrderRows.{OrderRows}
 use Rattle.model_rows.specs.declared.rows.Voucher.{Voucher}
 use Rattle.model_rows.specs.declared.rows.Waiting.{Waiting}
 use Rattle.model_rows.specs.declared.changes.Change.TheVariants.{PutVariation, PutQuota, PutVoucher, PutOrder, PutWaiting, DropVoucher as VoucherGoes, DropCart as CartGoes, DropWaiting as EntryGoes}
-use Rattle.model_rows.specs.Change.{changed, after_all}
+use Rattle.model_rows.specs.Change.{change_applied, after_all}
 use Rattle.model_rows.specs.Lists.{Lists, State}
 use Rattle.model_rows.specs.Numbered.{puts_of, with_variation, with_quota}
 use Rattle.model_invariant.specs.Changes.{LeadTo}
@@ -63,7 +63,7 @@ use Rattle.decide_waiting.proofs.Joins.{joined_is}
 use Rattle.decide_waiting.proofs.Leaves.{changed_is as entry_is, left_is}
 use Rattle.decide_waiting.proofs.SentSound.{sent_leads, served_leads}
 use Rattle.decide_door.specs.ListAdded.{list_added}
-use Rattle.decide_door.specs.Scanned.{scanned}
+use Rattle.decide_door.specs.Scanned.{ticket_scanned}
 use Rattle.decide_door.proofs.Added.{added_leads as list_added_leads}
 use Rattle.decide_door.proofs.Admitted.{admitted_leads}
 use Rattle.model_commands.specs.Fit.{IsFit}
@@ -89,8 +89,8 @@ use Rattle.model_commands.specs.declared.waiting.WaitingPatch.{WaitingPatch}
 use Rattle.model_commands.specs.declared.waiting.WaitingRefusal.{WaitingRefusal}
 use Rattle.office_step.specs.Changes.{sending_changes, changes_of}
 use Rattle.office_runs.specs.Changes.{MakesItsChanges}
-use Rattle.office_step.specs.PeriodicWork.{ended, periodic_changes}
-use Rattle.office_runs.specs.Runs.{Arrival, IsFitArrival, stepped, trace}
+use Rattle.office_step.specs.PeriodicWork.{pending_ended, periodic_changes}
+use Rattle.office_runs.specs.Runs.{Arrival, IsFitArrival, office_stepped, trace}
 use Rattle.office_step.specs.ShownRows.{show_voucher}
 use Rattle.office_step.specs.Step.{item_step, item_change_step, variation_step, quota_step, resize_step, voucher_step, voucher_change_step, voucher_drop_step, cart_step, cart_drop_step, bulk_step, order_step, move_step, join_step, priority_step, leave_step, send_step, checkin_list_step, redeem_step, step_now, moment_at}
 use Rattle.office_step.proofs.Catalogue.{variation_sound, quota_sound, resize_sound}
@@ -123,9 +123,9 @@ module _ (draw : Draw) (state : State) (sixteen : IsDraw draw) (sound : IsSound 
   quota_leads new fit (Err refusal) h = leads_nowhere state.lists
   quota_leads new fit (Ok row) h = leads_one (PutQuota row) state (with_quota row state) refl (quota_sound new state row h fit sound)
 
-  resize_leads : (id : ℕ) (patch : QuotaPatch) → IsFitQuotaPatch patch → (r : Result Quota CatalogueRefusal) → resized id patch state.lists.catalogue ≡ r → Leads (ResizeQuota id patch) draw state (resize_step state r)
+  resize_leads : (id : ℕ) (patch : QuotaPatch) → IsFitQuotaPatch patch → (r : Result Quota CatalogueRefusal) → quota_resized id patch state.lists.catalogue ≡ r → Leads (ResizeQuota id patch) draw state (resize_step state r)
   resize_leads id patch fit (Err refusal) h = leads_nowhere state.lists
-  resize_leads id patch fit (Ok row) h = leads_one (PutQuota row) state (changed (PutQuota row) state) refl (resize_sound id patch state row h fit sound)
+  resize_leads id patch fit (Ok row) h = leads_one (PutQuota row) state (change_applied (PutQuota row) state) refl (resize_sound id patch state row h fit sound)
 
   voucher_leads : (new : NewVoucher) → IsFitVoucher new → (r : Result (State × Voucher) VoucherRefusal) → voucher_made new draw state ≡ r → Leads (AddVoucher new) draw state (voucher_step state r)
   unfolding show_voucher
@@ -180,18 +180,18 @@ module _ (draw : Draw) (state : State) where
   send_leads id sixteen sound (Ok (after, row)) h = subst (λ (made : Result (State × Waiting) WaitingRefusal). LeadTo (sending_changes draw state made) state.lists after.lists) (sym h) (sent_leads draw sixteen id state after row sound h)
 
   -- orders expire, cart positions go, and then all are served
-  work_leads : IsDraw draw → IsSound state → LeadTo (periodic_changes draw state) state.lists (all_served draw (ended state)).0.lists
+  work_leads : IsDraw draw → IsSound state → LeadTo (periodic_changes draw state) state.lists (all_served draw (pending_ended state)).0.lists
   work_leads sixteen sound =
       let expired = orders_expired state in
       let left = expired_sound state sound in
-      let overdue = leads_joined (expired_changes state) (dropped_changes expired) state.lists expired.lists (ended state).lists (expired_leads state sound.ids.orders.in_order) (dropped_carts_lead expired left.ids.carts.in_order) in
-      leads_joined (expired_changes state ++ dropped_changes expired) (served_changes draw (ended state)) state.lists (ended state).lists (all_served draw (ended state)).0.lists overdue (served_leads draw sixteen (ended state) (dropped_carts_sound expired left))
+      let overdue = leads_joined (expired_changes state) (dropped_changes expired) state.lists expired.lists (pending_ended state).lists (expired_leads state sound.ids.orders.in_order) (dropped_carts_lead expired left.ids.carts.in_order) in
+      leads_joined (expired_changes state ++ dropped_changes expired) (served_changes draw (pending_ended state)) state.lists (pending_ended state).lists (all_served draw (pending_ended state)).0.lists overdue (served_leads draw sixteen (pending_ended state) (dropped_carts_sound expired left))
 
   list_leads : (new : NewCheckinList) → IsFitCheckinList new → IsSound state → (r : Result (State × CheckinList) DoorRefusal) → list_added new state ≡ r → Leads (AddCheckinList new) draw state (checkin_list_step state r)
   list_leads new fit sound (Err refusal) h = leads_nowhere state.lists
   list_leads new fit sound (Ok (after, row)) h = list_added_leads new state after row fit sound h
 
-  redeem_leads : (list : ℕ) (ticket : Ticket) (scan : Scan) → IsFitScan scan → IsSound state → (r : Result (State × OrderPos) DoorRefusal) → scanned list ticket scan state ≡ r → Leads (Redeem list ticket scan) draw state (redeem_step state r)
+  redeem_leads : (list : ℕ) (ticket : Ticket) (scan : Scan) → IsFitScan scan → IsSound state → (r : Result (State × OrderPos) DoorRefusal) → ticket_scanned list ticket scan state ≡ r → Leads (Redeem list ticket scan) draw state (redeem_step state r)
   redeem_leads list ticket scan fit sound (Err refusal) h = leads_nowhere state.lists
   redeem_leads list ticket scan fit sound (Ok (after, position)) h = admitted_leads list ticket scan state after position fit sound h
 
@@ -204,7 +204,7 @@ step_leads (AddItem new) draw state fit sixteen sound = item_leads_on draw state
 step_leads (ChangeItem id patch) draw state fit sixteen sound = item_change_leads draw state sixteen sound id patch (item_changed id patch state.lists.catalogue)
 step_leads (AddVariation item new) draw state fit sixteen sound = variation_leads draw state sixteen sound item new fit (variation_added item new state.next.variation state.lists.catalogue) refl
 step_leads (AddQuota new) draw state fit sixteen sound = quota_leads draw state sixteen sound new fit (quota_added new state.next.quota state.lists.catalogue) refl
-step_leads (ResizeQuota id patch) draw state fit sixteen sound = resize_leads draw state sixteen sound id patch fit (resized id patch state.lists.catalogue) refl
+step_leads (ResizeQuota id patch) draw state fit sixteen sound = resize_leads draw state sixteen sound id patch fit (quota_resized id patch state.lists.catalogue) refl
 step_leads (AddVoucher new) draw state fit sixteen sound = voucher_leads draw state sixteen sound new fit (voucher_made new draw state) refl
 step_leads (ChangeVoucher id patch) draw state fit sixteen sound = voucher_change_leads draw state sixteen sound id patch fit (voucher_changed id patch state) refl
 step_leads (DropVoucher id) draw state fit sixteen sound = voucher_drop_leads draw state sixteen sound id (voucher_deleted id state) refl
@@ -220,11 +220,11 @@ step_leads (DropWaiting id) draw state fit sixteen sound = leave_leads draw stat
 step_leads (SendVoucher id) draw state fit sixteen sound = send_leads draw state id sixteen sound (voucher_sent id draw state) refl
 step_leads Periodic draw state fit sixteen sound = work_leads draw state sixteen sound
 step_leads (AddCheckinList new) draw state fit sixteen sound = list_leads draw state new fit sound (list_added new state) refl
-step_leads (Redeem list ticket scan) draw state fit sixteen sound = redeem_leads draw state list ticket scan fit sound (scanned list ticket scan state) refl
+step_leads (Redeem list ticket scan) draw state fit sixteen sound = redeem_leads draw state list ticket scan fit sound (ticket_scanned list ticket scan state) refl
 
 pub changes_all : (arrivals : List Arrival) (state : State) → AllByRecursion IsFitArrival arrivals → IsSound state → AllByRecursion MakesItsChanges (trace arrivals state)
 changes_all [] state fit sound = tt
 changes_all (arrival ∷ arrivals) state fit sound = (
   step_leads arrival.command arrival.draw (record state { moment = moment_at arrival.clock state }) fit.0.command fit.0.draw (sound_at arrival state sound),
-  changes_all arrivals (stepped arrival state).after fit.1 (sound_after arrival state fit.0 sound),
+  changes_all arrivals (office_stepped arrival state).after fit.1 (sound_after arrival state fit.0 sound),
 )

@@ -14,7 +14,7 @@ use Rattle.model_catalogue.specs.ItemAdded.{item_added}
 use Rattle.model_catalogue.specs.ItemChanged.{item_changed}
 use Rattle.model_catalogue.specs.VariationAdded.{variation_added}
 use Rattle.model_catalogue.specs.QuotaAdded.{quota_added}
-use Rattle.model_catalogue.specs.Resized.{resized}
+use Rattle.model_catalogue.specs.Resized.{quota_resized}
 use Rattle.model_rows.specs.declared.changes.Change.TheVariants.{PutItem, PutVariation, PutVoucher, PutOrder, PutWaiting, DropCart, DropVoucher as VoucherGoes, DropWaiting as EntryGoes}
 use Rattle.model_rows.specs.declared.rows.CartPos.{CartPos}
 use Rattle.model_rows.specs.declared.rows.CheckinList.{CheckinList}
@@ -23,8 +23,8 @@ use Rattle.model_rows.specs.declared.rows.OrderPos.{OrderPos}
 use Rattle.model_rows.specs.declared.rows.OrderRows.{OrderRows}
 use Rattle.model_rows.specs.declared.rows.Voucher.{Voucher}
 use Rattle.model_rows.specs.declared.rows.Waiting.{Waiting}
-use Rattle.model_rows.specs.Change.{after_change, after_all, changed}
-use Rattle.model_rows.specs.Consumed.{consumed}
+use Rattle.model_rows.specs.Change.{after_change, after_all, change_applied}
+use Rattle.model_rows.specs.Consumed.{carts_consumed}
 use Rattle.model_rows.specs.Lists.{Lists, State}
 use Rattle.model_rows.specs.Numbered.{with_voucher, with_cart, with_waiting}
 use Rattle.model_rows.proofs.EachRow.{all_weaker, all-with_row}
@@ -74,17 +74,17 @@ use Rattle.decide_waiting.specs.Joined.{entry_joined}
 use Rattle.decide_waiting.specs.Changed.{entry_changed}
 use Rattle.decide_waiting.specs.Left.{entry_left}
 use Rattle.decide_waiting.specs.Sending.{with_sent, voucher_sent}
-use Rattle.decide_waiting.specs.Serving.{served, all_sent, all_served}
+use Rattle.decide_waiting.specs.Serving.{entries_served, all_sent, all_served}
 use Rattle.decide_waiting.proofs.Joins.{joined_is}
 use Rattle.decide_waiting.proofs.Leaves.{changed_is as entry_changed_is, left_is}
 use Rattle.decide_waiting.proofs.Sent.{sent_is}
 use Rattle.decide_orders.specs.Expired.{orders_expired, carts_dropped}
 use Rattle.decide_door.specs.ListAdded.{list_added}
-use Rattle.decide_door.specs.Scanned.{checkin_row, scanned}
+use Rattle.decide_door.specs.Scanned.{checkin_row, ticket_scanned}
 use Rattle.decide_door.proofs.Added.{added_is as list_is, added_id as list_id}
 use Rattle.decide_door.proofs.Admitted.{IsEitherOf, admitted_is}
 use Rattle.office_runs.specs.Doors.{Grows, DoorGrows}
-use Rattle.office_step.specs.PeriodicWork.{ended, periodic_done}
+use Rattle.office_step.specs.PeriodicWork.{pending_ended, periodic_done}
 use Rattle.office_step.specs.Step.{step_now, item_step, item_change_step, variation_step, quota_step, resize_step, voucher_step, voucher_change_step, voucher_drop_step, cart_step, bulk_step, order_step, move_step, cart_drop_step, join_step, priority_step, leave_step, send_step, checkin_list_step, redeem_step}
 
 -- ---- rows that are added at the end
@@ -253,25 +253,25 @@ module _ (draw : Draw) (state : State) where
   made_grows new after row h = subst (λ (s : State). DoorGrows state s) (made_is new draw state after row h).is_after (same_door state (with_voucher row state) (record { lists = refl; positions = refl; checkins = refl }))
 
   changed_grows : (id : ℕ) (patch : VoucherPatch) (after : State) (row : Voucher) → voucher_changed id patch state ≡ Ok (after, row) → DoorGrows state after
-  changed_grows id patch after row h = subst (λ (s : State). DoorGrows state s) (changed_is id patch state after row h).is_after (same_door state (changed (PutVoucher row) state) (record { lists = refl; positions = refl; checkins = refl }))
+  changed_grows id patch after row h = subst (λ (s : State). DoorGrows state s) (changed_is id patch state after row h).is_after (same_door state (change_applied (PutVoucher row) state) (record { lists = refl; positions = refl; checkins = refl }))
 
   deleted_grows : (id : ℕ) (after : State) → voucher_deleted id state ≡ Ok after → DoorGrows state after
-  deleted_grows id after h = subst (λ (s : State). DoorGrows state s) (deleted_is id state after h).is_after (same_door state (changed (VoucherGoes id) state) (record { lists = refl; positions = refl; checkins = refl }))
+  deleted_grows id after h = subst (λ (s : State). DoorGrows state s) (deleted_is id state after h).is_after (same_door state (change_applied (VoucherGoes id) state) (record { lists = refl; positions = refl; checkins = refl }))
 
   cart_grows : (new : NewCart) (after : State) (row : CartPos) → position_added new draw state ≡ Ok (after, row) → DoorGrows state after
   cart_grows new after row h = subst (λ (s : State). DoorGrows state s) (added_is new draw state after row h).is_after (same_door state (with_cart row state) (record { lists = refl; positions = refl; checkins = refl }))
 
   cart_drop_grows : (id : ℕ) (after : State) → position_dropped id state ≡ Ok after → DoorGrows state after
-  cart_drop_grows id after h = subst (λ (s : State). DoorGrows state s) (dropped_is id state after h) (same_door state (changed (DropCart id) state) (record { lists = refl; positions = refl; checkins = refl }))
+  cart_drop_grows id after h = subst (λ (s : State). DoorGrows state s) (dropped_is id state after h) (same_door state (change_applied (DropCart id) state) (record { lists = refl; positions = refl; checkins = refl }))
 
   move_grows : (number : ℕ) (change : Move) (after : State) (rows : OrderRows) → order_moved number change state ≡ Ok (after, rows) → DoorGrows state after
-  move_grows number change after rows h = subst (λ (s : State). DoorGrows state s) (moved_is number change state after rows h).is_after (same_door state (changed (PutOrder rows.order) state) (record { lists = refl; positions = refl; checkins = refl }))
+  move_grows number change after rows h = subst (λ (s : State). DoorGrows state s) (moved_is number change state after rows h).is_after (same_door state (change_applied (PutOrder rows.order) state) (record { lists = refl; positions = refl; checkins = refl }))
 
   order_grows : (new : NewOrder) (after : State) (made : OrderRows) → IsSound state → order_created new draw state ≡ Ok (after, made) → DoorGrows state after
   order_grows new after made sound h =
       let m = created_is new draw state after made h in
       let placed = with_order_row made.order new.consume_carts state in
-      let ids = consumed new.consume_carts state.lists in
+      let ids = carts_consumed new.consume_carts state.lists in
       let keep = carts_keep ids state.lists in
       let free : SameDoor state.lists placed.lists = record { lists = keep.lists; positions = keep.positions; checkins = keep.checkins } in
       let below = subst (λ (rows : List OrderPos). AllByRecursion (λ r. r.id < state.next.position) rows) (sym keep.positions) sound.ids.positions.below in
@@ -283,10 +283,10 @@ module _ (draw : Draw) (state : State) where
   join_grows new after row h = subst (λ (s : State). DoorGrows state s) (joined_is new state after row h).is_after (same_door state (with_waiting row state) (record { lists = refl; positions = refl; checkins = refl }))
 
   priority_grows : (id : ℕ) (patch : WaitingPatch) (after : State) (row : Waiting) → entry_changed id patch state ≡ Ok (after, row) → DoorGrows state after
-  priority_grows id patch after row h = subst (λ (s : State). DoorGrows state s) (entry_changed_is id patch state after row h).is_after (same_door state (changed (PutWaiting row) state) (record { lists = refl; positions = refl; checkins = refl }))
+  priority_grows id patch after row h = subst (λ (s : State). DoorGrows state s) (entry_changed_is id patch state after row h).is_after (same_door state (change_applied (PutWaiting row) state) (record { lists = refl; positions = refl; checkins = refl }))
 
   leave_grows : (id : ℕ) (after : State) → entry_left id state ≡ Ok after → DoorGrows state after
-  leave_grows id after h = subst (λ (s : State). DoorGrows state s) (left_is id state after h).is_after (same_door state (changed (EntryGoes id) state) (record { lists = refl; positions = refl; checkins = refl }))
+  leave_grows id after h = subst (λ (s : State). DoorGrows state s) (left_is id state after h).is_after (same_door state (change_applied (EntryGoes id) state) (record { lists = refl; positions = refl; checkins = refl }))
 
   send_grows : (id : ℕ) (after : State) (row : Waiting) → voucher_sent id draw state ≡ Ok (after, row) → DoorGrows state after
   send_grows id after row h =
@@ -296,7 +296,7 @@ module _ (draw : Draw) (state : State) where
   work_grows : DoorGrows state (periodic_done draw state).0
   unfolding all_served orders_expired carts_dropped
   work_grows =
-      let keep = served_keep draw (served (ended state)) (ended state) in
+      let keep = served_keep draw (entries_served (pending_ended state)) (pending_ended state) in
       same_door state (periodic_done draw state).0 (record { lists = keep.lists; positions = keep.positions; checkins = keep.checkins })
 
   list_grows : (new : NewCheckinList) (after : State) (row : CheckinList) → IsSound state → list_added new state ≡ Ok (after, row) → DoorGrows state after
@@ -306,7 +306,7 @@ module _ (draw : Draw) (state : State) where
     checkins = same_rows state.lists.checkins state.lists.checkins refl;
   })
 
-  scan_grows : (list : ℕ) (ticket : Ticket) (scan : Scan) (after : State) (position : OrderPos) → IsSound state → scanned list ticket scan state ≡ Ok (after, position) → DoorGrows state after
+  scan_grows : (list : ℕ) (ticket : Ticket) (scan : Scan) (after : State) (position : OrderPos) → IsSound state → ticket_scanned list ticket scan state ≡ Ok (after, position) → DoorGrows state after
   scan_grows list ticket scan after position sound h = by_kind (admitted_is list ticket scan state after position h).1
     where
       by_kind : IsEitherOf list scan state after position → DoorGrows state after
@@ -346,7 +346,7 @@ door_step (AddItem new) draw state sound = item state (item_added new state.next
 door_step (ChangeItem id patch) draw state sound = item_change state (item_changed id patch state.lists.catalogue)
 door_step (AddVariation of new) draw state sound = variation state (variation_added of new state.next.variation state.lists.catalogue)
 door_step (AddQuota new) draw state sound = quota state (quota_added new state.next.quota state.lists.catalogue)
-door_step (ResizeQuota id patch) draw state sound = resize state (resized id patch state.lists.catalogue)
+door_step (ResizeQuota id patch) draw state sound = resize state (quota_resized id patch state.lists.catalogue)
 door_step (AddVoucher new) draw state sound = voucher state (voucher_made new draw state) (made_grows draw state new)
 door_step (ChangeVoucher id patch) draw state sound = voucher_change state (voucher_changed id patch state) (changed_grows draw state id patch)
 door_step (DropVoucher id) draw state sound = voucher_drop state (voucher_deleted id state) (deleted_grows draw state id)
@@ -362,4 +362,4 @@ door_step (DropWaiting id) draw state sound = leaves state (entry_left id state)
 door_step (SendVoucher id) draw state sound = sends state (voucher_sent id draw state) (send_grows draw state id)
 door_step Periodic draw state sound = work_grows draw state
 door_step (AddCheckinList new) draw state sound = lists_more state (list_added new state) (λ after row h. list_grows draw state new after row sound h)
-door_step (Redeem list ticket scan) draw state sound = scans state (scanned list ticket scan state) (λ after position h. scan_grows draw state list ticket scan after position sound h)
+door_step (Redeem list ticket scan) draw state sound = scans state (ticket_scanned list ticket scan state) (λ after position h. scan_grows draw state list ticket scan after position sound h)

@@ -20,7 +20,7 @@ use Rattle.model_catalogue.specs.ItemAdded.{item_rows, item_added}
 use Rattle.model_catalogue.specs.ItemChanged.{item_changed}
 use Rattle.model_catalogue.specs.VariationAdded.{variation_added}
 use Rattle.model_catalogue.specs.QuotaAdded.{quota_added}
-use Rattle.model_catalogue.specs.Resized.{resized}
+use Rattle.model_catalogue.specs.Resized.{quota_resized}
 use Rattle.model_catalogue.proofs.Added.{item_added_is, item_changed_is, variation_added_is, quota_added_is, resized_is}
 use Rattle.model_rows.specs.declared.changes.Change.TheVariants.{PutItem, PutVariation, PutQuota, PutVoucher, PutOrder, PutPosition, DropVoucher, DropCart, PutWaiting, DropWaiting}
 use Rattle.model_rows.specs.declared.rows.CartPos.{CartPos}
@@ -33,8 +33,8 @@ use Rattle.model_rows.specs.declared.rows.Waiting.{Waiting}
 use Rattle.model_rows.specs.declared.rows.CheckinList.{CheckinList}
 use Rattle.model_rows.specs.declared.rows.Checkin.{Checkin}
 use Rattle.model_rows.specs.Conditions.{is_live_cart}
-use Rattle.model_rows.specs.Change.{after_change, after_all, changed, without_carts}
-use Rattle.model_rows.specs.Consumed.{consumed}
+use Rattle.model_rows.specs.Change.{after_change, after_all, change_applied, without_carts}
+use Rattle.model_rows.specs.Consumed.{carts_consumed}
 use Rattle.model_rows.specs.Lists.{State, voucher_at, order_at, waiting_at}
 use Rattle.model_rows.specs.Numbered.{AreFrom, with_item, with_variation, with_quota, with_voucher, with_cart, with_waiting, with_checkin_list, with_checkin}
 use Rattle.std.specs.List.{AllByRecursion}
@@ -83,7 +83,7 @@ use Rattle.decide_waiting.proofs.Sent.{sent_is}
 use Rattle.decide_waiting.specs.Sending.{with_sent, with_its_voucher, sent_voucher, voucher_sent}
 use Rattle.decide_waiting.specs.Serving.{all_sent}
 use Rattle.office_runs.specs.NewIds.{IdsGoOn, AllIdsGoOn}
-use Rattle.office_step.specs.PeriodicWork.{ended}
+use Rattle.office_step.specs.PeriodicWork.{pending_ended}
 
 expired_id : (at : ℕ) (order : Order) → (expired_if_due at order).id ≡ order.id
 expired_id at order = by_due (is_due at order)
@@ -220,7 +220,7 @@ module _ (s : State) where
     checkins = same (λ r. r.id) s.next.checkin s.lists.checkins;
   }
 
-  old_item : (row old : Item) → item_at row.id s.lists.catalogue ≡ Some old → AllIdsGoOn s (changed (PutItem row) s)
+  old_item : (row old : Item) → item_at row.id s.lists.catalogue ≡ Some old → AllIdsGoOn s (change_applied (PutItem row) s)
   old_item row old stood = record {
     items = put_old (λ r. r.id) row old s.next.item s.lists.catalogue.items stood;
     variations = same (λ r. r.id) s.next.variation s.lists.catalogue.variations;
@@ -262,7 +262,7 @@ module _ (s : State) where
     checkins = same (λ r. r.id) s.next.checkin s.lists.checkins;
   }
 
-  old_quota : (row old : Quota) → quota_at row.id s.lists.catalogue ≡ Some old → AllIdsGoOn s (changed (PutQuota row) s)
+  old_quota : (row old : Quota) → quota_at row.id s.lists.catalogue ≡ Some old → AllIdsGoOn s (change_applied (PutQuota row) s)
   old_quota row old stood = record {
     items = same (λ r. r.id) s.next.item s.lists.catalogue.items;
     variations = same (λ r. r.id) s.next.variation s.lists.catalogue.variations;
@@ -290,7 +290,7 @@ module _ (s : State) where
     checkins = same (λ r. r.id) s.next.checkin s.lists.checkins;
   }
 
-  old_voucher : (row old : Voucher) → voucher_at row.id s.lists ≡ Some old → AllIdsGoOn s (changed (PutVoucher row) s)
+  old_voucher : (row old : Voucher) → voucher_at row.id s.lists ≡ Some old → AllIdsGoOn s (change_applied (PutVoucher row) s)
   old_voucher row old stood = record {
     items = same (λ r. r.id) s.next.item s.lists.catalogue.items;
     variations = same (λ r. r.id) s.next.variation s.lists.catalogue.variations;
@@ -304,7 +304,7 @@ module _ (s : State) where
     checkins = same (λ r. r.id) s.next.checkin s.lists.checkins;
   }
 
-  drop_voucher : (id : ℕ) → AllIdsGoOn s (changed (DropVoucher id) s)
+  drop_voucher : (id : ℕ) → AllIdsGoOn s (change_applied (DropVoucher id) s)
   drop_voucher id = record {
     items = same (λ r. r.id) s.next.item s.lists.catalogue.items;
     variations = same (λ r. r.id) s.next.variation s.lists.catalogue.variations;
@@ -332,7 +332,7 @@ module _ (s : State) where
     checkins = same (λ r. r.id) s.next.checkin s.lists.checkins;
   }
 
-  drop_cart : (id : ℕ) → AllIdsGoOn s (changed (DropCart id) s)
+  drop_cart : (id : ℕ) → AllIdsGoOn s (change_applied (DropCart id) s)
   drop_cart id = record {
     items = same (λ r. r.id) s.next.item s.lists.catalogue.items;
     variations = same (λ r. r.id) s.next.variation s.lists.catalogue.variations;
@@ -346,7 +346,7 @@ module _ (s : State) where
     checkins = same (λ r. r.id) s.next.checkin s.lists.checkins;
   }
 
-  old_order : (row old : Order) → order_at row.id s.lists ≡ Some old → AllIdsGoOn s (changed (PutOrder row) s)
+  old_order : (row old : Order) → order_at row.id s.lists ≡ Some old → AllIdsGoOn s (change_applied (PutOrder row) s)
   old_order row old stood = record {
     items = same (λ r. r.id) s.next.item s.lists.catalogue.items;
     variations = same (λ r. r.id) s.next.variation s.lists.catalogue.variations;
@@ -374,7 +374,7 @@ module _ (s : State) where
     checkins = same (λ r. r.id) s.next.checkin s.lists.checkins;
   }
 
-  old_waiting : (row old : Waiting) → waiting_at row.id s.lists ≡ Some old → AllIdsGoOn s (changed (PutWaiting row) s)
+  old_waiting : (row old : Waiting) → waiting_at row.id s.lists ≡ Some old → AllIdsGoOn s (change_applied (PutWaiting row) s)
   old_waiting row old stood = record {
     items = same (λ r. r.id) s.next.item s.lists.catalogue.items;
     variations = same (λ r. r.id) s.next.variation s.lists.catalogue.variations;
@@ -388,7 +388,7 @@ module _ (s : State) where
     checkins = same (λ r. r.id) s.next.checkin s.lists.checkins;
   }
 
-  drop_waiting : (id : ℕ) → AllIdsGoOn s (changed (DropWaiting id) s)
+  drop_waiting : (id : ℕ) → AllIdsGoOn s (change_applied (DropWaiting id) s)
   drop_waiting id = record {
     items = same (λ r. r.id) s.next.item s.lists.catalogue.items;
     variations = same (λ r. r.id) s.next.variation s.lists.catalogue.variations;
@@ -431,7 +431,7 @@ module _ (s : State) where
   }
 
   -- what is overdue ends
-  pub ended_ids : AllIdsGoOn s (ended s)
+  pub ended_ids : AllIdsGoOn s (pending_ended s)
   unfolding orders_expired carts_dropped
   ended_ids = record {
     items = same (λ r. r.id) s.next.item s.lists.catalogue.items;
@@ -450,7 +450,7 @@ module _ (s : State) where
 abbrev numbered : ℕ → State → State
 numbered id s = record s { next = record s.next { order = s.next.order + 1; position = id } }
 
-new_order : (s : State) (row : Order) → row.id ≡ s.next.order → AllIdsGoOn s (numbered s.next.position (changed (PutOrder row) s))
+new_order : (s : State) (row : Order) → row.id ≡ s.next.order → AllIdsGoOn s (numbered s.next.position (change_applied (PutOrder row) s))
 new_order s row own = record {
   items = same (λ r. r.id) s.next.item s.lists.catalogue.items;
   variations = same (λ r. r.id) s.next.variation s.lists.catalogue.variations;
@@ -464,7 +464,7 @@ new_order s row own = record {
   checkins = same (λ r. r.id) s.next.checkin s.lists.checkins;
 }
 
-new_position : (s : State) (id : ℕ) (row : OrderPos) → row.id ≡ id → AllIdsGoOn (numbered id s) (numbered (id + 1) (changed (PutPosition row) s))
+new_position : (s : State) (id : ℕ) (row : OrderPos) → row.id ≡ id → AllIdsGoOn (numbered id s) (numbered (id + 1) (change_applied (PutPosition row) s))
 new_position s id row own = record {
   items = same (λ r. r.id) s.next.item s.lists.catalogue.items;
   variations = same (λ r. r.id) s.next.variation s.lists.catalogue.variations;
@@ -490,7 +490,7 @@ new_variations (row ∷ rows) s from =
 
 drop_carts : (ids : List ℕ) (s : State) → AllIdsGoOn s (without_carts ids s)
 drop_carts [] s = all_same s
-drop_carts (id ∷ ids) s = all_more s (changed (DropCart id) s) (without_carts (id ∷ ids) s) (drop_cart s id) (drop_carts ids (changed (DropCart id) s))
+drop_carts (id ∷ ids) s = all_more s (change_applied (DropCart id) s) (without_carts (id ∷ ids) s) (drop_cart s id) (drop_carts ids (change_applied (DropCart id) s))
 
 new_positions : (rows : List OrderPos) (id : ℕ) (s put : State) → AreCounted id rows → with_positions rows (Ok s) ≡ Ok put → AllIdsGoOn (numbered id s) (numbered (id + length rows) put)
 new_positions [] id s put from h =
@@ -518,7 +518,7 @@ item_ids new s rows h =
         let one : State = record s { lists = after_change (PutItem made.item) s.lists; next = record s.next { item = s.next.item + 1 } } in
         all_more s one (with_item made s) (new_item s made.item own) (new_variations made.variations one from)
 
-pub item_change_ids : (id : ℕ) (patch : ItemPatch) (s : State) (row : Item) → item_changed id patch s.lists.catalogue ≡ Ok row → AllIdsGoOn s (changed (PutItem row) s)
+pub item_change_ids : (id : ℕ) (patch : ItemPatch) (s : State) (row : Item) → item_changed id patch s.lists.catalogue ≡ Ok row → AllIdsGoOn s (change_applied (PutItem row) s)
 item_change_ids id patch s row h =
     let c = item_changed_is id patch s.lists.catalogue row h in
     let own : row.id ≡ id = sym (ap (λ (r : Item). r.id) c.is_row) ∙ key-row_at (λ (r : Item). r.id) id s.lists.catalogue.items c.old c.stood in
@@ -534,7 +534,7 @@ quota_ids new s row h =
     let a = quota_added_is new s.next.quota s.lists.catalogue row h in
     new_quota s row (sym (ap (λ (r : Quota). r.id) a.is_row))
 
-pub resize_ids : (id : ℕ) (patch : QuotaPatch) (s : State) (row : Quota) → resized id patch s.lists.catalogue ≡ Ok row → AllIdsGoOn s (changed (PutQuota row) s)
+pub resize_ids : (id : ℕ) (patch : QuotaPatch) (s : State) (row : Quota) → quota_resized id patch s.lists.catalogue ≡ Ok row → AllIdsGoOn s (change_applied (PutQuota row) s)
 resize_ids id patch s row h =
     let c = resized_is id patch s.lists.catalogue row h in
     let own : row.id ≡ id = sym (ap (λ (r : Quota). r.id) c.is_row) ∙ key-row_at (λ (r : Quota). r.id) id s.lists.catalogue.quotas c.old c.stood in
@@ -589,10 +589,10 @@ pub created_ids : (new : NewOrder) (draw : Draw) (s after : State) (made : Order
 created_ids new draw s after made h =
     let m = created_is new draw s after made h in
     let start = s.next.position in
-    let free = without_carts (consumed new.consume_carts s.lists) s in
+    let free = without_carts (carts_consumed new.consume_carts s.lists) s in
     let placed = with_order_row made.order new.consume_carts s in
     let own : made.order.id ≡ s.next.order = sym (ap (λ (o : Order). o.id) m.is_order) in
-    let ordered : AllIdsGoOn s (numbered start placed) = all_more s free (numbered start placed) (drop_carts (consumed new.consume_carts s.lists) s) (new_order free made.order own) in
+    let ordered : AllIdsGoOn s (numbered start placed) = all_more s free (numbered start placed) (drop_carts (carts_consumed new.consume_carts s.lists) s) (new_order free made.order own) in
     let end = numbered (start + length made.positions) m.put in
     let all : AllIdsGoOn s end = all_more s (numbered start placed) end ordered (new_positions made.positions start placed m.put (counted draw s [] start 1 new.positions made.positions m.are_rows) m.puts) in
     let next = puts_next made.positions placed m.put m.puts in

@@ -15,7 +15,7 @@ use Rattle.office_runs.proofs.Runs.{not_before, in_range, none_over_all, within_
 use Rattle.office_runs.proofs.BulkRuns.{entries_all}
 use Rattle.office_deliveries.specs.declared.arrival.Request.{Request}
 use Rattle.office_deliveries.specs.declared.arrival.Request.TheVariants.{Write, WriteRefused, Read, ReadRefused}
-use Rattle.office_deliveries.specs.Deliveries.{done, is_first, is_repeat, is_write, Delivery, Opening, First, executed, firsts, office, office_after}
+use Rattle.office_deliveries.specs.Deliveries.{request_done, is_first, is_repeat, is_write, Delivery, Opening, First, write_executed, firsts, office, office_after}
 use Rattle.office_deliveries.specs.Fit.{IsFitRequest, IsFitArrival, IsFitDelivery}
 use Rattle.office_runs.specs.NothingTooMuch.{TakesNothingTooMuch, step_of, steps}
 use Rattle.office_deliveries.proofs.Runs.{AreTimed, timed, stores}
@@ -28,10 +28,10 @@ all-append P (x ∷ xs) ys (here, all) more = (here, all-append P xs ys all more
 -- what one executed write is
 record IsFine (words : Reply → Response) (request : Request) (at : ℕ) (draw : Draw) (state : State) : Type 0 where
   steps : AllByRecursion TakesNothingTooMuch (step_of at draw request state)
-  sound : IsSound (done words request at draw state).0
+  sound : IsSound (request_done words request at draw state).0
 
 fine : (words : Reply → Response) (request : Request) (clock : ℕ) (draw : Draw) (state : State) → IsFitRequest request → IsDraw draw → IsSound state → IsFine words request (moment_at clock state) draw state
-unfolding done
+unfolding request_done
 fine words (Write command) clock draw state fit sixteen sound =
     let arrivals : List Coming = record { clock = clock; draw = draw; command = command } ∷ [] in
     let come : AllByRecursion IsFitComing arrivals = (record { command = fit; draw = sixteen }, tt) in
@@ -52,10 +52,10 @@ steps-fine words state [] sound fit timed = (tt, sound)
 steps-fine words state (f ∷ fs) sound (fit, all) (write, at, timed) =
     let here : IsFine words f.arrival.request f.at f.arrival.draw state =
     subst (λ (n : ℕ). IsFine words f.arrival.request n f.arrival.draw state) (sym at) (fine words f.arrival.request f.arrival.clock f.arrival.draw state fit.request fit.draw sound) in
-    let moment : (executed words f state).0.moment ≡ f.at =
-    subst (λ (n : ℕ). (done words f.arrival.request n f.arrival.draw state).0.moment ≡ n) (sym at) (stores words f.arrival.request f.arrival.clock f.arrival.draw state write) in
-    let others = steps-fine words (executed words f state).0 fs here.sound all (subst (λ (n : ℕ). AreTimed n fs) (sym moment) timed) in
-    (all-append TakesNothingTooMuch (step_of f.at f.arrival.draw f.arrival.request state) (steps words (executed words f state).0 fs) here.steps others.0, others.1)
+    let moment : (write_executed words f state).0.moment ≡ f.at =
+    subst (λ (n : ℕ). (request_done words f.arrival.request n f.arrival.draw state).0.moment ≡ n) (sym at) (stores words f.arrival.request f.arrival.clock f.arrival.draw state write) in
+    let others = steps-fine words (write_executed words f state).0 fs here.sound all (subst (λ (n : ℕ). AreTimed n fs) (sym moment) timed) in
+    (all-append TakesNothingTooMuch (step_of f.at f.arrival.draw f.arrival.request state) (steps words (write_executed words f state).0 fs) here.steps others.0, others.1)
 
 not-true : (b : Bool) → not b ≡ true → b ≡ false
 not-true false e = refl

@@ -13,14 +13,14 @@ use Rattle.model_rows.specs.Lists.{State}
 use Rattle.model_rows.specs.Over.{first_over, ignores}
 use Rattle.model_rows.specs.Refills.{refills}
 use Rattle.model_invariant.specs.Sound.{IsSound}
-use Rattle.model_rows.specs.Takes.{used, TakesNoMore}
+use Rattle.model_rows.specs.Takes.{places_used, TakesNoMore}
 use Rattle.model_rows.specs.Conditions.{is_in_force}
 use Rattle.model_commands.specs.declared.orders.Move.{Move}
 use Rattle.model_commands.specs.declared.orders.Move.TheVariants.{MarkPaid, MarkPending, MarkExpired, MarkCanceled, Extend}
 use Rattle.decide_orders.specs.declared.moves.Transition.{Transition}
 use Rattle.model_commands.specs.declared.orders.NewOrder.{NewOrder}
 use Rattle.decide_orders.specs.Created.{order_created}
-use Rattle.decide_orders.specs.Moves.{turned, order_moved}
+use Rattle.decide_orders.specs.Moves.{transition_of, order_moved}
 use Rattle.decide_orders.proofs.Created.{created_none_over}
 use Rattle.decide_orders.proofs.CreatedTakes.{created_takes_no_more}
 use Rattle.decide_orders.proofs.Moved.{IsMoved, moved_is, revived_none_over, revived_takes_no_more, moved_lowers}
@@ -34,7 +34,7 @@ pub record IsOrderFine (state after : State) (rows : OrderRows) (takes : Bool) (
   pub ids : AllIdsGoOn state after
   pub not_over : takes ≡ true → first_over state.lists after.lists state.moment (map (λ p. Position p.id) rows.positions) ≡ None
   pub within : takes ≡ true → IsSound state → AllByRecursion (λ p. ignores after.lists p.voucher ≡ false) rows.positions → TakesNoMore state after
-  pub lowers : takes ≡ false → IsSound state → (quota : Quota) → quota_at quota.id state.lists.catalogue ≡ Some quota → again quota ≡ false → used after quota ≤ used state quota
+  pub lowers : takes ≡ false → IsSound state → (quota : Quota) → quota_at quota.id state.lists.catalogue ≡ Some quota → again quota ≡ false → places_used after quota ≤ places_used state quota
 
 pub made_fine : (new : NewOrder) (draw : Draw) (state after : State) (rows : OrderRows) → order_created new draw state ≡ Ok (after, rows) → IsOrderFine state after rows true (λ quota. false)
 made_fine new draw state after rows h = record {
@@ -49,7 +49,7 @@ force_of None = false
 force_of (Some turn) = is_in_force turn.status
 
 -- what a move that is possible does to an order that comes back
-came_back : (status : Status) (change : Move) (turn : Transition) → turned status change ≡ Some turn → revives status change ≡ true → (is_in_force turn.status ≡ true) × (is_in_force status ≡ false)
+came_back : (status : Status) (change : Move) (turn : Transition) → transition_of status change ≡ Some turn → revives status change ≡ true → (is_in_force turn.status ≡ true) × (is_in_force status ≡ false)
 came_back Pending change turn e back = absurd (cc (back))
 came_back Paid change turn e back = absurd (cc (back))
 came_back Cancelled change turn e back = absurd (cc (back))
@@ -60,7 +60,7 @@ came_back Expired MarkExpired turn e back = absurd (cc (back))
 came_back Expired MarkCanceled turn e back = absurd (cc (back))
 
 -- and to any other
-stayed : (status : Status) (change : Move) (turn : Transition) → turned status change ≡ Some turn → revives status change ≡ false → (is_in_force status ≡ true) ⊎ (is_in_force turn.status ≡ false)
+stayed : (status : Status) (change : Move) (turn : Transition) → transition_of status change ≡ Some turn → revives status change ≡ false → (is_in_force status ≡ true) ⊎ (is_in_force turn.status ≡ false)
 stayed Pending change turn e back = inl refl
 stayed Paid change turn e back = inl refl
 stayed Cancelled change turn e back = absurd (cc (e))

@@ -15,7 +15,7 @@ use Rattle.model_commands.specs.declared.orders.Move.{Move}
 use Rattle.model_commands.specs.declared.requests.Command.{Command}
 use Rattle.model_commands.specs.declared.requests.Command.TheVariants.{AddItem, ChangeItem, AddVariation, AddQuota, ResizeQuota, AddVoucher, ChangeVoucher, DropVoucher, ImportVouchers, AddCart, AddCarts, DropCart, AddOrder, MoveOrder, AddWaiting, ChangeWaiting, DropWaiting, SendVoucher, Periodic, AddCheckinList, Redeem}
 use Rattle.decide_orders.specs.declared.moves.Transition.{Transition}
-use Rattle.decide_orders.specs.Moves.{turned}
+use Rattle.decide_orders.specs.Moves.{transition_of}
 use Rattle.office_runs.specs.Takings.{refills_turned, refills_found, fills_again}
 
 first_is : (a b : Bool) → (a && b) ≡ true → a ≡ true
@@ -46,7 +46,7 @@ module _ (state : State) (quota : Quota) where
 
   found_released : (found : Option Order) (change : Move) → refills_found state quota found change ≡ true → quota.release_after_exit ≡ true
   found_released None change e = absurd (cc (e))
-  found_released (Some old) change e = turned_released old (turned old.status change) e
+  found_released (Some old) change e = turned_released old (transition_of old.status change) e
 
 pub filled_released : (command : Command) (state : State) (quota : Quota) → fills_again command state quota ≡ true → quota.release_after_exit ≡ true
 filled_released (AddItem new) state quota e = absurd (cc (e))

@@ -14,7 +14,7 @@ use Rattle.model_catalogue.specs.ItemAdded.{item_added}
 use Rattle.model_catalogue.specs.ItemChanged.{item_changed}
 use Rattle.model_catalogue.specs.VariationAdded.{variation_added}
 use Rattle.model_catalogue.specs.QuotaAdded.{quota_added}
-use Rattle.model_catalogue.specs.Resized.{resized}
+use Rattle.model_catalogue.specs.Resized.{quota_resized}
 use Rattle.model_rows.specs.declared.rows.CartPos.{CartPos}
 use Rattle.model_rows.specs.declared.rows.OrderPos.{OrderPos}
 use Rattle.model_rows.specs.declared.rows.OrderRows.{OrderRows}
@@ -24,12 +24,12 @@ use Rattle.model_rows.specs.declared.rows.Voucher.{Voucher}
 use Rattle.model_rows.specs.declared.rows.Waiting.{Waiting}
 use Rattle.model_rows.specs.declared.rows.CheckinList.{CheckinList}
 use Rattle.model_rows.specs.declared.changes.Change.TheVariants.{PutItem, PutQuota}
-use Rattle.model_rows.specs.Change.{changed}
+use Rattle.model_rows.specs.Change.{change_applied}
 use Rattle.model_rows.specs.Lists.{Lists, State}
 use Rattle.model_rows.specs.Numbered.{with_item, with_variation, with_quota}
 use Rattle.model_rows.specs.Over.{first_over, ignores}
 use Rattle.model_invariant.specs.Sound.{IsSound}
-use Rattle.model_rows.specs.Takes.{used, TakesNoMore}
+use Rattle.model_rows.specs.Takes.{places_used, TakesNoMore}
 use Rattle.model_rows.proofs.EachRow.{all_of}
 use Rattle.model_invariant.proofs.Sound.{sound_later}
 use Rattle.model_commands.specs.declared.vouchers.VoucherRefusal.{VoucherRefusal}
@@ -67,7 +67,7 @@ use Rattle.decide_waiting.specs.Sending.{voucher_sent}
 use Rattle.decide_waiting.proofs.Leaves.{changed_keeps_used, left_lowers}
 use Rattle.decide_waiting.proofs.Sent.{sending_keeps_used}
 use Rattle.decide_door.specs.ListAdded.{list_added}
-use Rattle.decide_door.specs.Scanned.{scanned}
+use Rattle.decide_door.specs.Scanned.{ticket_scanned}
 use Rattle.decide_door.proofs.Added.{added_used as list_used}
 use Rattle.model_commands.specs.declared.requests.Kind.{Kind}
 use Rattle.model_commands.specs.declared.replies.Refusal.{Refusal}
@@ -78,8 +78,8 @@ use Rattle.office_step.specs.ShownRows.{show_voucher}
 use Rattle.office_step.specs.Step.{step, step_now, item_step, item_change_step, variation_step, quota_step, resize_step, voucher_step, voucher_change_step, voucher_drop_step, import_step, cart_step, bulk_step, order_step, move_step, cart_drop_step, join_step, priority_step, leave_step, send_step, periodic_step, checkin_list_step, redeem_step, moment_at}
 use Rattle.office_step.specs.PeriodicWork.{periodic_done}
 use Rattle.office_runs.specs.NewIds.{AllIdsGoOn}
-use Rattle.office_runs.specs.Takings.{OwnRow, cart_own, position_own, cart_taken, order_taken, voucher_taken, brings_back, taken, voucher_ignores, is_joined, may_raise, fills_again}
-use Rattle.office_runs.specs.Runs.{Arrival, IsFitArrival, Stepped, stepped, office_at, trace, after_run, alone, made_alone, import_trace, steps_of}
+use Rattle.office_runs.specs.Takings.{OwnRow, cart_own, position_own, cart_taken, order_taken, voucher_taken, brings_back, rows_taken, voucher_ignores, is_joined, may_raise, fills_again}
+use Rattle.office_runs.specs.Runs.{Arrival, IsFitArrival, Stepped, office_stepped, office_at, trace, after_run, alone, made_alone, import_trace, steps_of}
 use Rattle.office_runs.specs.Promises.{Each, NoneOver, StaysWithin, RaisesNothing, GivesNewIds, LeavesSound, NeverGoesBack, StoresItsMoment, ChangesNothingElse}
 use Rattle.office_step.proofs.SoundSteps.{sound_step, step_sound}
 use Rattle.office_runs.proofs.OrderSteps.{IsOrderFine, made_fine, moved_fine}
@@ -94,7 +94,7 @@ record IsFine (state : State) (made : State × Reply) (own : Option (List OwnRow
   ids : AllIdsGoOn state made.0
   none_over : (rows : List OwnRow) → own ≡ Some rows → first_over state.lists made.0.lists state.moment (map (λ r. r.own) rows) ≡ None
   within : IsSound state → (rows : List OwnRow) → own ≡ Some rows → list_any (λ r. ignores made.0.lists r.voucher) rows ≡ false → TakesNoMore state made.0
-  lowers : IsSound state → itself ≡ true → own ≡ None → may ≡ false → (quota : Quota) → quota_at quota.id state.lists.catalogue ≡ Some quota → again quota ≡ false → used made.0 quota ≤ used state quota
+  lowers : IsSound state → itself ≡ true → own ≡ None → may ≡ false → (quota : Quota) → quota_at quota.id state.lists.catalogue ≡ Some quota → again quota ≡ false → places_used made.0 quota ≤ places_used state quota
 
 no_list : (own : List OwnRow) → (let none : Option (List OwnRow) = None in none ≡ Some own) → ⊥
 no_list own e = cc
@@ -149,7 +149,7 @@ module _ (state : State) where
     ids = all_same state;
     none_over = λ rows e. absurd (no_list rows e);
     within = λ sound rows e. absurd (no_list rows e);
-    lowers = λ sound one e may quota stands none. no_more (used state quota);
+    lowers = λ sound one e may quota stands none. no_more (places_used state quota);
   }
 
   item_fine : (r : Result ItemRows CatalogueRefusal) → ((made : ItemRows) → r ≡ Ok made → AllIdsGoOn state (with_item made state)) → IsFine state (item_step state r) None true false never
@@ -162,7 +162,7 @@ module _ (state : State) where
     lowers = λ sound one e may quota stands none. item_lowers state quota made;
   }
 
-  item_change_fine : (r : Result Item CatalogueRefusal) → ((row : Item) → r ≡ Ok row → AllIdsGoOn state (changed (PutItem row) state)) → IsFine state (item_change_step state r) None true false never
+  item_change_fine : (r : Result Item CatalogueRefusal) → ((row : Item) → r ≡ Ok row → AllIdsGoOn state (change_applied (PutItem row) state)) → IsFine state (item_change_step state r) None true false never
   item_change_fine (Err refusal) ids = refused_fine _ _ _ _ _
   item_change_fine (Ok row) ids = record {
     refused = λ k r e. absurd (cc);
@@ -192,7 +192,7 @@ module _ (state : State) where
     lowers = λ sound one e may quota stands none. quota_lowers state quota row;
   }
 
-  resize_fine : (r : Result Quota CatalogueRefusal) → ((row : Quota) → r ≡ Ok row → AllIdsGoOn state (changed (PutQuota row) state)) → IsFine state (resize_step state r) None true false never
+  resize_fine : (r : Result Quota CatalogueRefusal) → ((row : Quota) → r ≡ Ok row → AllIdsGoOn state (change_applied (PutQuota row) state)) → IsFine state (resize_step state r) None true false never
   resize_fine (Err refusal) ids = refused_fine _ _ _ _ _
   resize_fine (Ok row) ids = record {
     refused = λ k r e. absurd (cc);
@@ -235,7 +235,7 @@ module _ (state : State) where
     lowers = λ sound one e may. absurd (takes_or_ignores row.allow_ignore_quota e may);
   }
 
-  voucher_drop_fine : (r : Result State VoucherRefusal) → ((after : State) → r ≡ Ok after → AllIdsGoOn state after) → ((after : State) → r ≡ Ok after → (quota : Quota) → used after quota ≤ used state quota) → IsFine state (voucher_drop_step state r) None true false never
+  voucher_drop_fine : (r : Result State VoucherRefusal) → ((after : State) → r ≡ Ok after → AllIdsGoOn state after) → ((after : State) → r ≡ Ok after → (quota : Quota) → places_used after quota ≤ places_used state quota) → IsFine state (voucher_drop_step state r) None true false never
   voucher_drop_fine (Err refusal) ids lowers = refused_fine _ _ _ _ _
   voucher_drop_fine (Ok after) ids lowers = record {
     refused = λ k r e. absurd (cc);
@@ -334,7 +334,7 @@ module _ (state : State) where
     lowers = λ sound one e may. (known after rows refl).lowers refl sound;
   }
 
-  cart_drop_fine : (r : Result State OrderRefusal) → ((after : State) → r ≡ Ok after → AllIdsGoOn state after) → ((after : State) → r ≡ Ok after → (quota : Quota) → used after quota ≤ used state quota) → IsFine state (cart_drop_step state r) None true false never
+  cart_drop_fine : (r : Result State OrderRefusal) → ((after : State) → r ≡ Ok after → AllIdsGoOn state after) → ((after : State) → r ≡ Ok after → (quota : Quota) → places_used after quota ≤ places_used state quota) → IsFine state (cart_drop_step state r) None true false never
   cart_drop_fine (Err refusal) ids lowers = refused_fine _ _ _ _ _
   cart_drop_fine (Ok after) ids lowers = record {
     refused = λ k r e. absurd (cc);
@@ -347,7 +347,7 @@ module _ (state : State) where
   -- where a step was made that takes no places, but some of these quotas again
   record IsQuiet (after : State) (again : Quota → Bool) : Type 0 where
     ids : AllIdsGoOn state after
-    lowers : IsSound state → (quota : Quota) → quota_at quota.id state.lists.catalogue ≡ Some quota → again quota ≡ false → used after quota ≤ used state quota
+    lowers : IsSound state → (quota : Quota) → quota_at quota.id state.lists.catalogue ≡ Some quota → again quota ≡ false → places_used after quota ≤ places_used state quota
 
   quiet_fine : (after : State) (reply : Reply) (again : Quota → Bool) → ((kind : Kind) (refusal : Refusal) → reply ≡ Refused kind refusal → ⊥) → IsQuiet after again → IsFine state (after, reply) None true false again
   quiet_fine after reply again told known = record {
@@ -410,12 +410,12 @@ few_entries entries draw state made h = by_count (nat_lt most_entries (length en
     by_count true e = absurd (cc (e))
     by_count false e = refl
 
-step_fine : (command : Command) (draw : Draw) (state : State) → IsFine state (step_now command draw state) (taken command draw state) (is_itself command) (may_raise command draw state) (λ quota. fills_again command state quota)
+step_fine : (command : Command) (draw : Draw) (state : State) → IsFine state (step_now command draw state) (rows_taken command draw state) (is_itself command) (may_raise command draw state) (λ quota. fills_again command state quota)
 step_fine (AddItem new) draw state = item_fine state (item_added new state.next.item state.next.variation state.lists.catalogue) (λ made h. item_ids new state made h)
 step_fine (ChangeItem id patch) draw state = item_change_fine state (item_changed id patch state.lists.catalogue) (λ row h. item_change_ids id patch state row h)
 step_fine (AddVariation item new) draw state = variation_fine state (variation_added item new state.next.variation state.lists.catalogue) (λ made h. variation_ids item new state made h)
 step_fine (AddQuota new) draw state = quota_fine state (quota_added new state.next.quota state.lists.catalogue) (λ row h. quota_ids new state row h)
-step_fine (ResizeQuota id patch) draw state = resize_fine state (resized id patch state.lists.catalogue) (λ row h. resize_ids id patch state row h)
+step_fine (ResizeQuota id patch) draw state = resize_fine state (quota_resized id patch state.lists.catalogue) (λ row h. resize_ids id patch state row h)
 step_fine (AddVoucher new) draw state = voucher_fine state (voucher_made new draw state) (λ after row h. record {
   ids = made_ids new draw state after row h;
   not_over = made_not_over new draw state after row h;
@@ -445,7 +445,7 @@ step_fine (AddWaiting new) draw state = join_fine state (entry_joined new state)
 })
 step_fine (ChangeWaiting id patch) draw state = priority_fine state (entry_changed id patch state) (λ after row h. record {
   ids = changed_entry_ids id patch state after row h;
-  lowers = λ sound quota stands none. as_before (used after quota) (used state quota) (changed_keeps_used id patch state after row quota sound h);
+  lowers = λ sound quota stands none. as_before (places_used after quota) (places_used state quota) (changed_keeps_used id patch state after row quota sound h);
 })
 step_fine (DropWaiting id) draw state = leave_fine state (entry_left id state) (λ after h. record {
   ids = left_ids id state after h;
@@ -453,7 +453,7 @@ step_fine (DropWaiting id) draw state = leave_fine state (entry_left id state) (
 })
 step_fine (SendVoucher id) draw state = send_fine state (voucher_sent id draw state) (λ after row h. record {
   ids = sending_ids id draw state after row h;
-  lowers = λ sound quota stands none. as_before (used after quota) (used state quota) (sending_keeps_used id draw state after row sound h quota);
+  lowers = λ sound quota stands none. as_before (places_used after quota) (places_used state quota) (sending_keeps_used id draw state after row sound h quota);
 })
 step_fine Periodic draw state = periodic_fine state (periodic_done draw state) (record {
   ids = worked_ids draw state;
@@ -461,9 +461,9 @@ step_fine Periodic draw state = periodic_fine state (periodic_done draw state) (
 })
 step_fine (AddCheckinList new) draw state = checkin_list_fine state (list_added new state) (λ after row h. record {
   ids = list_ids new state after row h;
-  lowers = λ sound quota stands none. as_before (used after quota) (used state quota) (list_used new state after row quota h);
+  lowers = λ sound quota stands none. as_before (places_used after quota) (places_used state quota) (list_used new state after row quota h);
 })
-step_fine (Redeem list ticket scan) draw state = redeem_fine state (λ quota. fills_again (Redeem list ticket scan) state quota) (scanned list ticket scan state) (λ after position h. record {
+step_fine (Redeem list ticket scan) draw state = redeem_fine state (λ quota. fills_again (Redeem list ticket scan) state quota) (ticket_scanned list ticket scan state) (λ after position h. record {
   ids = scanned_ids list ticket scan state after position h;
   lowers = λ sound quota stands none. scan_lowers list ticket scan state after position sound h quota none;
 })
@@ -483,16 +483,16 @@ in_range clock state le = by_last state.moment clock last_moment le
     by_last moment clock last le = omega (arith, le)
 
 -- the step of an arrival, from the office at its moment
-fine_at : (arrival : Arrival) (state : State) → (let now : State = record state { moment = moment_at arrival.clock state } in IsFine now (step arrival.command (moment_at arrival.clock state) arrival.draw state) (taken arrival.command arrival.draw now) (is_itself arrival.command) (may_raise arrival.command arrival.draw now) (λ quota. fills_again arrival.command now quota))
+fine_at : (arrival : Arrival) (state : State) → (let now : State = record state { moment = moment_at arrival.clock state } in IsFine now (step arrival.command (moment_at arrival.clock state) arrival.draw state) (rows_taken arrival.command arrival.draw now) (is_itself arrival.command) (may_raise arrival.command arrival.draw now) (λ quota. fills_again arrival.command now quota))
 fine_at arrival state = step_fine arrival.command arrival.draw (record state { moment = moment_at arrival.clock state })
 
 pub sound_at : (arrival : Arrival) (state : State) → IsSound state → IsSound (record state { moment = moment_at arrival.clock state })
 sound_at arrival state sound = sound_later state (moment_at arrival.clock state) (not_before arrival.clock state) (in_range arrival.clock state sound.range.moment) sound
 
-pub sound_after : (arrival : Arrival) (state : State) → IsFitArrival arrival → IsSound state → IsSound (stepped arrival state).after
+pub sound_after : (arrival : Arrival) (state : State) → IsFitArrival arrival → IsSound state → IsSound (office_stepped arrival state).after
 sound_after arrival state fit sound = step_sound arrival.command (moment_at arrival.clock state) arrival.draw state fit.command fit.draw (not_before arrival.clock state) (in_range arrival.clock state sound.range.moment) sound
 
-moment_after : (arrival : Arrival) (state : State) → (stepped arrival state).after.moment ≡ moment_at arrival.clock state
+moment_after : (arrival : Arrival) (state : State) → (office_stepped arrival state).after.moment ≡ moment_at arrival.clock state
 moment_after arrival state = (sound_step arrival.command arrival.draw (record state { moment = moment_at arrival.clock state })).moment
 
 -- ---- steps by themselves
@@ -502,24 +502,24 @@ moment_after arrival state = (sound_step arrival.command arrival.draw (record st
 module _ (Law : Stepped → Type 0) (Fit : Arrival → Type 0) (Known : State → Type 0)
     (parts : (clock at : ℕ) (draw : Draw) (entries : List Entry) → Fit (record { clock = clock; draw = draw; command = AddCarts entries }) → AllByRecursion Fit (alone at draw entries))
     (rows : (clock at : ℕ) (draw : Draw) (vouchers : List NewVoucher) → Fit (record { clock = clock; draw = draw; command = ImportVouchers vouchers }) → AllByRecursion (λ new. Fit (made_alone at draw new)) vouchers)
-    (one : (arrival : Arrival) (state : State) → Fit arrival → Known state → is_itself arrival.command ≡ true → Law (stepped arrival state))
+    (one : (arrival : Arrival) (state : State) → Fit arrival → Known state → is_itself arrival.command ≡ true → Law (office_stepped arrival state))
     (later : (arrival : Arrival) (state : State) → Known state → Known (record state { moment = moment_at arrival.clock state }))
-    (keeps : (arrival : Arrival) (state : State) → Fit arrival → Known state → Known (stepped arrival state).after) where
+    (keeps : (arrival : Arrival) (state : State) → Fit arrival → Known state → Known (office_stepped arrival state).after) where
   alone_all : (clock : ℕ) (draw : Draw) (entries : List Entry) (state : State) → AllByRecursion Fit (alone clock draw entries) → Known state → AllByRecursion Law (trace (alone clock draw entries) state)
   alone_all clock draw [] state fit known = tt
   alone_all clock draw (Faulty fault ∷ entries) state fit known = alone_all clock draw entries state fit known
   alone_all clock draw (New new ∷ entries) state fit known =
       let arrival : Arrival = record { clock = clock; draw = draw; command = AddCart new } in
-      (one arrival state fit.0 known refl, alone_all clock draw entries (stepped arrival state).after fit.1 (keeps arrival state fit.0 known))
+      (one arrival state fit.0 known refl, alone_all clock draw entries (office_stepped arrival state).after fit.1 (keeps arrival state fit.0 known))
 
   import_all : (clock : ℕ) (draw : Draw) (vouchers : List NewVoucher) (state : State) → AllByRecursion (λ new. Fit (made_alone clock draw new)) vouchers → Known state → AllByRecursion Law (import_trace clock draw vouchers state)
   import_all clock draw [] state fit known = tt
   import_all clock draw (new ∷ vouchers) state fit known =
       let arrival = made_alone clock draw new in
-      by_namesake (is_some (namesake new.code state.lists)) (import_all clock draw vouchers state fit.1 known) (one arrival state fit.0 known refl, import_all clock draw vouchers (stepped arrival state).after fit.1 (keeps arrival state fit.0 known))
+      by_namesake (is_some (namesake new.code state.lists)) (import_all clock draw vouchers state fit.1 known) (one arrival state fit.0 known refl, import_all clock draw vouchers (office_stepped arrival state).after fit.1 (keeps arrival state fit.0 known))
     where
-      by_namesake : (stands : Bool) → AllByRecursion Law (import_trace clock draw vouchers state) → AllByRecursion Law (stepped (made_alone clock draw new) state ∷ import_trace clock draw vouchers (stepped (made_alone clock draw new) state).after)
-          → AllByRecursion Law (if stands then import_trace clock draw vouchers state else (stepped (made_alone clock draw new) state ∷ import_trace clock draw vouchers (stepped (made_alone clock draw new) state).after))
+      by_namesake : (stands : Bool) → AllByRecursion Law (import_trace clock draw vouchers state) → AllByRecursion Law (office_stepped (made_alone clock draw new) state ∷ import_trace clock draw vouchers (office_stepped (made_alone clock draw new) state).after)
+          → AllByRecursion Law (if stands then import_trace clock draw vouchers state else (office_stepped (made_alone clock draw new) state ∷ import_trace clock draw vouchers (office_stepped (made_alone clock draw new) state).after))
       by_namesake true others all = others
       by_namesake false others all = all
 
@@ -551,24 +551,24 @@ module _ (Law : Stepped → Type 0) (Fit : Arrival → Type 0) (Known : State �
       by_count true own = (own refl, tt)
       by_count false own = all entries refl
 
-  each_one : (arrival : Arrival) (state : State) → Fit arrival → Known state → Each Law (stepped arrival state)
-  each_one arrival state fit known = by_command arrival.command (stepped arrival state) (one arrival state fit known) (λ entries is. by_parts entries is) (λ vouchers is. by_rows vouchers is)
+  each_one : (arrival : Arrival) (state : State) → Fit arrival → Known state → Each Law (office_stepped arrival state)
+  each_one arrival state fit known = by_command arrival.command (office_stepped arrival state) (one arrival state fit known) (λ entries is. by_parts entries is) (λ vouchers is. by_rows vouchers is)
     where
-      by_parts : (entries : List Entry) → arrival.command ≡ AddCarts entries → (let s = stepped arrival state in AllByRecursion Law (trace (alone s.at s.draw entries) (office_at s)))
+      by_parts : (entries : List Entry) → arrival.command ≡ AddCarts entries → (let s = office_stepped arrival state in AllByRecursion Law (trace (alone s.at s.draw entries) (office_at s)))
       by_parts entries is =
-          let s = stepped arrival state in
+          let s = office_stepped arrival state in
           let all : Fit (record { clock = arrival.clock; draw = arrival.draw; command = AddCarts entries }) = subst (λ (command : Command). Fit (record { clock = arrival.clock; draw = arrival.draw; command = command })) is fit in
           alone_all s.at s.draw entries (office_at s) (parts arrival.clock s.at s.draw entries all) (later arrival state known)
 
-      by_rows : (vouchers : List NewVoucher) → arrival.command ≡ ImportVouchers vouchers → (let s = stepped arrival state in AllByRecursion Law (import_trace s.at s.draw vouchers (office_at s)))
+      by_rows : (vouchers : List NewVoucher) → arrival.command ≡ ImportVouchers vouchers → (let s = office_stepped arrival state in AllByRecursion Law (import_trace s.at s.draw vouchers (office_at s)))
       by_rows vouchers is =
-          let s = stepped arrival state in
+          let s = office_stepped arrival state in
           let all : Fit (record { clock = arrival.clock; draw = arrival.draw; command = ImportVouchers vouchers }) = subst (λ (command : Command). Fit (record { clock = arrival.clock; draw = arrival.draw; command = command })) is fit in
           import_all s.at s.draw vouchers (office_at s) (rows arrival.clock s.at s.draw vouchers all) (later arrival state known)
 
   each_all : (arrivals : List Arrival) (state : State) → AllByRecursion Fit arrivals → Known state → AllByRecursion (Each Law) (trace arrivals state)
   each_all [] state fit known = tt
-  each_all (arrival ∷ arrivals) state fit known = (each_one arrival state fit.0 known, each_all arrivals (stepped arrival state).after fit.1 (keeps arrival state fit.0 known))
+  each_all (arrival ∷ arrivals) state fit known = (each_one arrival state fit.0 known, each_all arrivals (office_stepped arrival state).after fit.1 (keeps arrival state fit.0 known))
 
 -- the entries of a bulk call that is fit are
 fit_parts : (clock at : ℕ) (draw : Draw) (entries : List Entry) → IsFitArrival (record { clock = clock; draw = draw; command = AddCarts entries }) → AllByRecursion IsFitArrival (alone at draw entries)
@@ -596,35 +596,35 @@ lowers_all = each_all RaisesNothing IsFitArrival IsSound fit_parts fit_rows (λ 
 
 -- ---- whole commands
 
-ids_at : (arrival : Arrival) (state : State) → AllIdsGoOn state (stepped arrival state).after
+ids_at : (arrival : Arrival) (state : State) → AllIdsGoOn state (office_stepped arrival state).after
 ids_at arrival state = before_it (fine_at arrival state).ids
   where
-    before_it : AllIdsGoOn (record state { moment = moment_at arrival.clock state }) (stepped arrival state).after → AllIdsGoOn state (stepped arrival state).after
+    before_it : AllIdsGoOn (record state { moment = moment_at arrival.clock state }) (office_stepped arrival state).after → AllIdsGoOn state (office_stepped arrival state).after
     before_it h = record { items = h.items; variations = h.variations; quotas = h.quotas; vouchers = h.vouchers; carts = h.carts; orders = h.orders; positions = h.positions; waiting = h.waiting; checkin_lists = h.checkin_lists; checkins = h.checkins }
 
 pub ids_all : (arrivals : List Arrival) (state : State) → AllByRecursion GivesNewIds (trace arrivals state)
 ids_all [] state = tt
-ids_all (arrival ∷ arrivals) state = (ids_at arrival state, ids_all arrivals (stepped arrival state).after)
+ids_all (arrival ∷ arrivals) state = (ids_at arrival state, ids_all arrivals (office_stepped arrival state).after)
 
 pub ids_over : (arrivals : List Arrival) (state : State) → AllIdsGoOn state (after_run arrivals state)
 ids_over [] state = all_same state
 ids_over (arrival ∷ arrivals) state =
-    let next = (stepped arrival state).after in
+    let next = (office_stepped arrival state).after in
     all_more state next (after_run arrivals next) (ids_at arrival state) (ids_over arrivals next)
 
 pub sound_all : (arrivals : List Arrival) (state : State) → AllByRecursion IsFitArrival arrivals → IsSound state → AllByRecursion LeavesSound (trace arrivals state)
 sound_all [] state fit sound = tt
-sound_all (arrival ∷ arrivals) state fit sound = (sound_after arrival state fit.0 sound, sound_all arrivals (stepped arrival state).after fit.1 (sound_after arrival state fit.0 sound))
+sound_all (arrival ∷ arrivals) state fit sound = (sound_after arrival state fit.0 sound, sound_all arrivals (office_stepped arrival state).after fit.1 (sound_after arrival state fit.0 sound))
 
 pub stores_all : (arrivals : List Arrival) (state : State) → AllByRecursion StoresItsMoment (trace arrivals state)
 stores_all [] state = tt
-stores_all (arrival ∷ arrivals) state = (moment_after arrival state, stores_all arrivals (stepped arrival state).after)
+stores_all (arrival ∷ arrivals) state = (moment_after arrival state, stores_all arrivals (office_stepped arrival state).after)
 
 pub never_back_all : (arrivals : List Arrival) (state : State) → AllByRecursion NeverGoesBack (trace arrivals state)
 never_back_all [] state = tt
 never_back_all (arrival ∷ arrivals) state =
-    (subst (λ (m : ℕ). state.moment ≤ m) (sym (moment_after arrival state)) (not_before arrival.clock state), never_back_all arrivals (stepped arrival state).after)
+    (subst (λ (m : ℕ). state.moment ≤ m) (sym (moment_after arrival state)) (not_before arrival.clock state), never_back_all arrivals (office_stepped arrival state).after)
 
 pub refused_all : (arrivals : List Arrival) (state : State) → AllByRecursion ChangesNothingElse (trace arrivals state)
 refused_all [] state = tt
-refused_all (arrival ∷ arrivals) state = ((fine_at arrival state).refused, refused_all arrivals (stepped arrival state).after)
+refused_all (arrival ∷ arrivals) state = ((fine_at arrival state).refused, refused_all arrivals (office_stepped arrival state).after)

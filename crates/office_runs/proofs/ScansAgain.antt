@@ -12,14 +12,14 @@ use Rattle.model_commands.specs.declared.doors.Scan.{Scan}
 use Rattle.model_commands.specs.declared.doors.Ticket.{Ticket}
 use Rattle.model_commands.specs.declared.doors.Ticket.TheVariants.{Position, Secret, Unreadable}
 use Rattle.model_commands.specs.declared.replies.Reply.TheVariants.{Admitted}
-use Rattle.decide_door.specs.Scanned.{scanned}
+use Rattle.decide_door.specs.Scanned.{ticket_scanned}
 use Rattle.decide_door.specs.Valid.{IsStillGood}
 use Rattle.decide_door.specs.Verdict.{shown_by, is_stored}
 use Rattle.decide_door.proofs.Admitted.{admitted_is}
 use Rattle.decide_door.proofs.Again.{scan_stores, scan_repeated}
 use Rattle.office_runs.specs.Doors.{DoorGrows}
 use Rattle.office_runs.specs.Promises.{HasNoncesOnce, scan_comes, AddsNothing}
-use Rattle.office_runs.specs.Runs.{Arrival, IsFitArrival, stepped, trace, after_run}
+use Rattle.office_runs.specs.Runs.{Arrival, IsFitArrival, office_stepped, trace, after_run}
 use Rattle.office_step.specs.Step.{redeem_step, moment_at}
 use Rattle.office_runs.proofs.DoorTables.{door_more, door_still, door_step}
 use Rattle.office_runs.proofs.Runs.{sound_at, sound_after}
@@ -59,23 +59,23 @@ module _ (before after : State) (grows : DoorGrows before after) where
 
 -- runs
 
-door_at : (arrival : Arrival) (state : State) → IsSound state → DoorGrows state (stepped arrival state).after
+door_at : (arrival : Arrival) (state : State) → IsSound state → DoorGrows state (office_stepped arrival state).after
 door_at arrival state sound = before_it (door_step arrival.command arrival.draw (record state { moment = moment_at arrival.clock state }) (sound_at arrival state sound))
   where
-    before_it : DoorGrows (record state { moment = moment_at arrival.clock state }) (stepped arrival state).after → DoorGrows state (stepped arrival state).after
+    before_it : DoorGrows (record state { moment = moment_at arrival.clock state }) (office_stepped arrival state).after → DoorGrows state (office_stepped arrival state).after
     before_it h = record { lists = h.lists; positions = h.positions; checkins = h.checkins }
 
 door_over : (arrivals : List Arrival) (state : State) → AllByRecursion IsFitArrival arrivals → IsSound state → DoorGrows state (after_run arrivals state)
 door_over [] state fit sound = door_still state
 door_over (arrival ∷ arrivals) state fit sound =
-    let next = (stepped arrival state).after in
+    let next = (office_stepped arrival state).after in
     door_more state next (after_run arrivals next) (door_at arrival state sound) (door_over arrivals next fit.1 (sound_after arrival state fit.0 sound))
 
 pub nonces_all : (arrivals : List Arrival) (state : State) → AllByRecursion IsFitArrival arrivals → IsSound state → AllByRecursion HasNoncesOnce (trace arrivals state)
 nonces_all [] state fit sound = tt
 nonces_all (arrival ∷ arrivals) state fit sound =
     let after = sound_after arrival state fit.0 sound in
-    (after.door.nonces, nonces_all arrivals (stepped arrival state).after fit.1 after)
+    (after.door.nonces, nonces_all arrivals (office_stepped arrival state).after fit.1 after)
 
 -- a scan that is told a position was let through
 let_through : (state : State) (position : OrderPos) (r : Result (State × OrderPos) DoorRefusal) → (redeem_step state r).1 ≡ Admitted position → r ≡ Ok ((redeem_step state r).0, position)
@@ -88,20 +88,20 @@ some_is found row e = ap is_some e
 module _ (list : ℕ) (ticket : Ticket) (scan : Scan) (position : OrderPos) where
   pub admits_again : (clock later : ℕ) (draw other : Draw) (arrivals : List Arrival) (state : State)
       → IsFitArrival (scan_comes list ticket scan clock draw) → AllByRecursion IsFitArrival arrivals → IsSound state → is_some scan.nonce ≡ true
-      → (stepped (scan_comes list ticket scan clock draw) state).reply ≡ Admitted position
-      → IsStillGood position.order state.lists (after_run arrivals (stepped (scan_comes list ticket scan clock draw) state).after).lists
-      → AddsNothing position (stepped (scan_comes list ticket scan later other) (after_run arrivals (stepped (scan_comes list ticket scan clock draw) state).after))
+      → (office_stepped (scan_comes list ticket scan clock draw) state).reply ≡ Admitted position
+      → IsStillGood position.order state.lists (after_run arrivals (office_stepped (scan_comes list ticket scan clock draw) state).after).lists
+      → AddsNothing position (office_stepped (scan_comes list ticket scan later other) (after_run arrivals (office_stepped (scan_comes list ticket scan clock draw) state).after))
   admits_again clock later draw other arrivals state fit fits sound nonce told good =
       let comes = scan_comes list ticket scan clock draw in
-      let first = stepped comes state in
+      let first = office_stepped comes state in
       let now : State = record state { moment = moment_at clock state } in
       let end = after_run arrivals first.after in
       let again : State = record end { moment = moment_at later end } in
-      let done : scanned list ticket scan now ≡ Ok (first.after, position) = let_through now position (scanned list ticket scan now) told in
+      let done : ticket_scanned list ticket scan now ≡ Ok (first.after, position) = let_through now position (ticket_scanned list ticket scan now) told in
       let known = (admitted_is list ticket scan now first.after position done).0 in
       let grown = door_over arrivals first.after fits (sound_after comes state fit sound) in
       let whole = door_more state first.after end (door_at comes state sound) grown in
-      let repeated : scanned list ticket scan again ≡ Ok (again, position) =
+      let repeated : ticket_scanned list ticket scan again ≡ Ok (again, position) =
       scan_repeated list ticket scan now first.after again position done
       (list_stays state end whole list (some_is (checkin_list_at list state.lists) known.by known.found))
       (shown_still state end whole ticket position known.shown)

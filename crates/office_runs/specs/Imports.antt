@@ -36,5 +36,5 @@ pub record FitImport : Type 0 where
   pub sound : IsSound state
 
 -- the box office after it, and the verdicts on its rows
-abbrev pub imported : FitImport → State × List Verdict
-imported i = rows_imported i.rows i.draw i.state
+abbrev pub import_done : FitImport → State × List Verdict
+import_done i = rows_imported i.rows i.draw i.state

@@ -7,7 +7,7 @@ use Rattle.model_commands.specs.declared.replies.Reply.{Reply}
 use Rattle.office_step.specs.Step.{step}
 use Rattle.office_deliveries.specs.declared.arrival.Request.{Request}
 use Rattle.office_deliveries.specs.declared.arrival.Request.TheVariants.{Write, WriteRefused, Read, ReadRefused}
-use Rattle.office_deliveries.specs.Deliveries.{First, executed}
+use Rattle.office_deliveries.specs.Deliveries.{First, write_executed}
 use Rattle.office_runs.specs.Runs.{Stepped}
 use Rattle.office_runs.specs.Promises.{Each, NoneOver, StaysWithin, RaisesNothing, RunsItsEntries, GivesNewIds, LeavesSound}
 
@@ -31,4 +31,4 @@ step_of at draw (ReadRefused response) state = []
 -- the steps of the executed commands, one after another
 abbrev pub steps : (Reply → Response) → State → List First → List Stepped
 steps words state [] = []
-steps words state (f ∷ fs) = step_of f.at f.arrival.draw f.arrival.request state ++ steps words (executed words f state).0 fs
+steps words state (f ∷ fs) = step_of f.at f.arrival.draw f.arrival.request state ++ steps words (write_executed words f state).0 fs

@@ -8,7 +8,7 @@ use Rattle.model_rows.specs.Budgets.{AllWithinBudget}
 use Rattle.model_rows.specs.Lists.{State}
 use Rattle.model_rows.specs.Over.{first_over, ignores}
 use Rattle.model_invariant.specs.Sound.{IsSound}
-use Rattle.model_rows.specs.Takes.{used, TakesNoMore}
+use Rattle.model_rows.specs.Takes.{places_used, TakesNoMore}
 use Rattle.model_commands.specs.declared.carts.Entry.{Entry}
 use Rattle.model_commands.specs.declared.carts.Entry.TheVariants.{New, Faulty}
 use Rattle.model_commands.specs.declared.carts.Outcome.{Outcome}
@@ -23,9 +23,9 @@ use Rattle.model_commands.specs.declared.requests.Kind.{Kind}
 use Rattle.model_commands.specs.declared.replies.Refusal.{Refusal}
 use Rattle.model_commands.specs.declared.replies.Reply.{Reply}
 use Rattle.model_commands.specs.declared.replies.Reply.TheVariants.{Made, Results, Imported, Refused, Admitted}
-use Rattle.office_runs.specs.Takings.{OwnRow, taken, may_raise, fills_again}
+use Rattle.office_runs.specs.Takings.{OwnRow, rows_taken, may_raise, fills_again}
 use Rattle.office_runs.specs.NewIds.{AllIdsGoOn}
-use Rattle.office_runs.specs.Runs.{Arrival, IsFitArrival, Stepped, stepped, office_at, trace, after_run, alone, made_alone, steps_of}
+use Rattle.office_runs.specs.Runs.{Arrival, IsFitArrival, Stepped, office_stepped, office_at, trace, after_run, alone, made_alone, steps_of}
 use Rattle.model_rows.specs.declared.rows.OrderPos.{OrderPos}
 use Rattle.model_invariant.specs.Checkins.{AreOnce}
 use Rattle.model_commands.specs.declared.doors.Scan.{Scan}
@@ -49,21 +49,21 @@ Each Law s = AllByRecursion Law (steps_of s.command s)
 
 -- where places were taken, no quota was taken too much of
 abbrev pub NoneOver : Stepped → Type 0
-NoneOver s = (own : List OwnRow) → taken s.command s.draw (office_at s) ≡ Some own → first_over s.before.lists s.after.lists s.at (map (λ r. r.own) own) ≡ None
+NoneOver s = (own : List OwnRow) → rows_taken s.command s.draw (office_at s) ≡ Some own → first_over s.before.lists s.after.lists s.at (map (λ r. r.own) own) ≡ None
 
 -- where places were taken and no own row's voucher ignores quotas, each quota's usage is within its size, or no more than
 -- before
 abbrev pub StaysWithin : Stepped → Type 0
 StaysWithin s =
-    (own : List OwnRow) → taken s.command s.draw (office_at s) ≡ Some own → list_any (λ r. ignores s.after.lists r.voucher) own ≡ false → TakesNoMore (office_at s) s.after
+    (own : List OwnRow) → rows_taken s.command s.draw (office_at s) ≡ Some own → list_any (λ r. ignores s.after.lists r.voucher) own ≡ false → TakesNoMore (office_at s) s.after
 
 -- any other step raises the usage of no quota that stood before, but for those that may, and those that take places of this quota
 -- again that exits set free
 abbrev pub RaisesNothing : Stepped → Type 0
 RaisesNothing s =
-    taken s.command s.draw (office_at s) ≡ None → may_raise s.command s.draw (office_at s) ≡ false →
+    rows_taken s.command s.draw (office_at s) ≡ None → may_raise s.command s.draw (office_at s) ≡ false →
     (quota : Quota) → quota_at quota.id s.before.lists.catalogue ≡ Some quota → fills_again s.command (office_at s) quota ≡ false →
-    used s.after quota ≤ used (office_at s) quota
+    places_used s.after quota ≤ places_used (office_at s) quota
 
 -- what became of an entry, by what its own step was told
 abbrev pub outcome_told : Reply → Option Outcome
@@ -75,7 +75,7 @@ outcome_told other = None
 abbrev pub outcomes_alone : ℕ → Draw → List Entry → State → List (Option Outcome)
 outcomes_alone clock draw [] state = []
 outcomes_alone clock draw (New new ∷ more) state =
-    let s = stepped (record { clock = clock; draw = draw; command = AddCart new }) state in
+    let s = office_stepped (record { clock = clock; draw = draw; command = AddCart new }) state in
     outcome_told s.reply ∷ outcomes_alone clock draw more s.after
 outcomes_alone clock draw (Faulty fault ∷ more) state = Some (outcomes.Faulty fault) ∷ outcomes_alone clock draw more state
 
@@ -94,7 +94,7 @@ verdict_told other = None
 
 -- what a row leaves and is told, beside the voucher that has its code
 abbrev pub row_beside : Option Voucher → ℕ → Draw → NewVoucher → State → State × Option Verdict
-row_beside None clock draw new state = ((stepped (made_alone clock draw new) state).after, verdict_told (stepped (made_alone clock draw new) state).reply)
+row_beside None clock draw new state = ((office_stepped (made_alone clock draw new) state).after, verdict_told (office_stepped (made_alone clock draw new) state).reply)
 row_beside (Some row) clock draw new state = (state, Some (verdict_on new row))
 
 -- what the rows of an import leave and are told, each as a command of its own, after those before it

@@ -39,8 +39,8 @@ pub record Stepped : Type 0 where
   pub reply : Reply
 
 -- what a command makes of the office, at the moment that the clock and the office give it
-abbrev pub stepped : Arrival → State → Stepped
-stepped arrival state =
+abbrev pub office_stepped : Arrival → State → Stepped
+office_stepped arrival state =
     let at = moment_at arrival.clock state in
     let made = step arrival.command at arrival.draw state in
     record { command = arrival.command; draw = arrival.draw; before = state; at = at; after = made.0; reply = made.1 }
@@ -52,12 +52,12 @@ office_at s = record s.before { moment = s.at }
 -- the steps of a run, each from the office that the one before it left
 abbrev pub trace : List Arrival → State → List Stepped
 trace [] state = []
-trace (arrival ∷ arrivals) state = stepped arrival state ∷ trace arrivals (stepped arrival state).after
+trace (arrival ∷ arrivals) state = office_stepped arrival state ∷ trace arrivals (office_stepped arrival state).after
 
 -- the office after a run
 abbrev pub after_run : List Arrival → State → State
 after_run [] state = state
-after_run (arrival ∷ arrivals) state = after_run arrivals (stepped arrival state).after
+after_run (arrival ∷ arrivals) state = after_run arrivals (office_stepped arrival state).after
 
 -- an entry of a bulk call as a command of its own
 abbrev pub alone : ℕ → Draw → List Entry → List Arrival
@@ -74,7 +74,7 @@ abbrev pub import_trace : ℕ → Draw → List NewVoucher → State → List St
 import_trace clock draw [] state = []
 import_trace clock draw (new ∷ more) state =
     if is_some (namesake new.code state.lists) then import_trace clock draw more state
-    else (stepped (made_alone clock draw new) state ∷ import_trace clock draw more (stepped (made_alone clock draw new) state).after)
+    else (office_stepped (made_alone clock draw new) state ∷ import_trace clock draw more (office_stepped (made_alone clock draw new) state).after)
 
 -- A step, or those that it consists of: a bulk call that isn't refused as a whole is its entries, each as a command of its
 -- own, at the call's moment and with its draw, after those before it; a faulty one asks nothing. So an import is its rows.

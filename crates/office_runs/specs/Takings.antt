@@ -24,7 +24,7 @@ use Rattle.model_commands.specs.declared.orders.OrderRefusal.{OrderRefusal}
 use Rattle.decide_orders.specs.Carts.{position_added}
 use Rattle.decide_orders.specs.Created.{order_created}
 use Rattle.decide_orders.specs.declared.moves.Transition.{Transition}
-use Rattle.decide_orders.specs.Moves.{turned, order_moved}
+use Rattle.decide_orders.specs.Moves.{transition_of, order_moved}
 use Rattle.model_commands.specs.declared.waiting.WaitingRefusal.{WaitingRefusal}
 use Rattle.decide_waiting.specs.Joined.{entry_joined}
 use Rattle.model_commands.specs.declared.requests.Command.{Command}
@@ -76,13 +76,13 @@ brings_back number change lists = revives_found (order_at number lists) change
 -- What takes places, told by the command and the office at its moment: adding a cart position, making an order, a move
 -- that brings an order back into force, making or changing a voucher that then doesn't ignore quotas, each where it isn't
 -- refused. Its own rows are those of its result. A bulk call is none: each of its entries is a command of its own.
-abbrev pub taken : Command → Draw → State → Option (List OwnRow)
-taken (AddCart new) draw state = cart_taken (position_added new draw state)
-taken (AddOrder new) draw state = order_taken (order_created new draw state)
-taken (MoveOrder number change) draw state = if brings_back number change state.lists then order_taken (order_moved number change state) else None
-taken (AddVoucher new) draw state = voucher_taken (voucher_made new draw state)
-taken (ChangeVoucher id patch) draw state = voucher_taken (voucher_changed id patch state)
-taken other draw state = None
+abbrev pub rows_taken : Command → Draw → State → Option (List OwnRow)
+rows_taken (AddCart new) draw state = cart_taken (position_added new draw state)
+rows_taken (AddOrder new) draw state = order_taken (order_created new draw state)
+rows_taken (MoveOrder number change) draw state = if brings_back number change state.lists then order_taken (order_moved number change state) else None
+rows_taken (AddVoucher new) draw state = voucher_taken (voucher_made new draw state)
+rows_taken (ChangeVoucher id patch) draw state = voucher_taken (voucher_changed id patch state)
+rows_taken other draw state = None
 
 -- a voucher that was made or changed, and then ignores quotas
 abbrev pub voucher_ignores : Result (State × Voucher) VoucherRefusal → Bool
@@ -110,7 +110,7 @@ refills_turned state quota old (Some turn) = refills state.lists state.moment qu
 -- there is such an order, and what the move makes of it takes places of the quota again
 abbrev pub refills_found : State → Quota → Option Order → Move → Bool
 refills_found state quota None change = false
-refills_found state quota (Some old) change = refills_turned state quota old (turned old.status change)
+refills_found state quota (Some old) change = refills_turned state quota old (transition_of old.status change)
 
 -- What takes places of a quota again that exits set free, though it is no taking: an entry, a payment that is taken back, and a paid
 -- order that ends while a voucher of one who has gone out blocks places. Of a quota that releases places alone.

@@ -9,7 +9,7 @@ ghost use Rattle.model_rows.specs.Lists.{State};
 ghost use Rattle.model_invariant.specs.Sound.{IsSound};
 ghost use Rattle.office_runs.specs.Changes.{MakesItsChanges};
 ghost use Rattle.base_values.specs.declared.draw.Draw.{Draw};
-ghost use Rattle.office_runs.specs.Imports.{AreSameAgain, FitImport, imported};
+ghost use Rattle.office_runs.specs.Imports.{AreSameAgain, FitImport, import_done};
 ghost use Rattle.model_rows.specs.declared.rows.OrderPos.{OrderPos};
 ghost use Rattle.model_commands.specs.declared.doors.Scan.{Scan};
 ghost use Rattle.model_commands.specs.declared.doors.Ticket.{Ticket};
@@ -23,7 +23,7 @@ ghost use Rattle.office_runs.specs.NothingTooMuch.{TakesNothingTooMuch, steps};
 ghost use Rattle.office_runs.specs.Promises.{HasNoncesOnce, scan_comes, AddsNothing};
 ghost use Rattle.office_runs.specs.NewIds.{AllIdsGoOn};
 ghost use Rattle.office_runs.specs.Takings.{fills_again};
-ghost use Rattle.office_runs.specs.Runs.{Arrival, IsFitArrival, stepped, after_run};
+ghost use Rattle.office_runs.specs.Runs.{Arrival, IsFitArrival, office_stepped, after_run};
 ghost use Rattle.office_runs.specs.Promises.{InEachRun, InEachSoundRun, Each, NoneOver, StaysWithin, RaisesNothing, RunsItsEntries, GivesNewIds, LeavesSound, KeepsBudgets, StoresItsMoment, ChangesNothingElse, NeverGoesBack};
 
 /// Whatever commands come, where one takes places, no quota is taken too much of: where a cart position is added, an order is
@@ -62,8 +62,8 @@ pub fn bulk_calls_run_their_entries()
 /// between: so a file can be imported again after a lost answer. A voucher file's rows all have a code.
 pub fn importing_again_adds_nothing()
     ensures { (first next : FitImport) →
-        next.state.lists.vouchers ≡ (imported first).0.lists.vouchers →
-        AreSameAgain next.state next.draw next.rows first.rows (imported first).1 }
+        next.state.lists.vouchers ≡ (import_done first).0.lists.vouchers →
+        AreSameAgain next.state next.draw next.rows first.rows (import_done first).1 }
 {}
 
 /// Ids are never used again: no command lowers the next id of a table, and a row that it adds has an id that is at least the
@@ -120,11 +120,11 @@ pub fn a_scan_sent_again_adds_nothing()
         (draw other : Draw) (arrivals : List Arrival) (state : State) →
         IsFitArrival (scan_comes list ticket scan clock draw) →
         AllByRecursion IsFitArrival arrivals → IsSound state → is_some scan.nonce ≡ true →
-        let admitted = stepped (scan_comes list ticket scan clock draw) state in
+        let admitted = office_stepped (scan_comes list ticket scan clock draw) state in
         let between = after_run arrivals admitted.after in
         admitted.reply ≡ Reply.Admitted position →
         IsStillGood position.order state.lists between.lists →
-        AddsNothing position (stepped (scan_comes list ticket scan later other) between) }
+        AddsNothing position (office_stepped (scan_comes list ticket scan later other) between) }
 {}
 
 /// Whatever arrivals come to a sound office, each executed command takes too much of no quota, as the laws of the office say

@@ -7,7 +7,7 @@ use Rattle.model_rows.specs.declared.rows.NextIds.{NextIds}
 use Rattle.model_rows.specs.declared.changes.Change.{Change}
 use Rattle.model_rows.specs.declared.changes.Change.TheVariants.{PutVoucher}
 use Rattle.model_rows.specs.Lists.{Lists, State}
-use Rattle.model_rows.specs.Change.{Changed, applied, after_all}
+use Rattle.model_rows.specs.Change.{Changed, changes_applied, after_all}
 use Rattle.office_step.specs.Drafts.{DraftState, now, Extends}
 use Rattle.model_commands.specs.declared.vouchers.NewVoucher.{NewVoucher}
 use Rattle.model_commands.specs.declared.vouchers.VoucherPatch.{VoucherPatch}
@@ -37,7 +37,7 @@ abbrev office_of : List Change → NextIds → Lists → ℕ → State
 office_of changes next lists at = record { lists = after_all changes lists; next = next; moment = at }
 
 -- the changes of a draft that ends lead to what the draft is
-finished : (state : State) (at : ℕ) (draft : DraftState) (made : Changed) → made.list ≡ draft.log.changes → made.next ≡ draft.next → draft.log.base ≡ state.lists → draft.moment ≡ at → applied made at state ≡ now draft
+finished : (state : State) (at : ℕ) (draft : DraftState) (made : Changed) → made.list ≡ draft.log.changes → made.next ≡ draft.next → draft.log.base ≡ state.lists → draft.moment ≡ at → changes_applied made at state ≡ now draft
 finished state at draft made list next base moment =
     ap (λ (l : List Change). office_of l made.next state.lists at) list ∙ (ap (λ (n : NextIds). office_of draft.log.changes n state.lists at) next ∙ (ap (λ (b : Lists). office_of draft.log.changes draft.next b at) (sym base) ∙ ap (λ (m : ℕ). office_of draft.log.changes draft.next draft.log.base m) (sym moment)))
 
@@ -62,7 +62,7 @@ moment_is : (state : State) (at : ℕ) (begun after : DraftState) → begun ≡ 
 moment_is state at begun after is extends = extends.moment ∙ ap (λ (d : DraftState). d.moment) is
 
 -- where the changes of a draft that was just opened lead
-ended : (state : State) (at : ℕ) (begun after : DraftState) (made : Changed) → begun ≡ opened state at → Extends begun after → made.list ≡ after.log.changes → made.next ≡ after.next → applied made at state ≡ now after
+ended : (state : State) (at : ℕ) (begun after : DraftState) (made : Changed) → begun ≡ opened state at → Extends begun after → made.list ≡ after.log.changes → made.next ≡ after.next → changes_applied made at state ≡ now after
 ended state at begun after made is extends list next =
     finished state at after made list next (base_is state at begun after is extends) (moment_is state at begun after is extends)
 

@@ -21,10 +21,10 @@ use Rattle.model_catalogue.specs.ItemAdded.{variation_rows, item_rows, item_adde
 use Rattle.model_catalogue.specs.ItemChanged.{patched_item, item_changed}
 use Rattle.model_catalogue.specs.VariationAdded.{variation_added}
 use Rattle.model_catalogue.specs.QuotaAdded.{quota_added}
-use Rattle.model_catalogue.specs.Resized.{patched_quota, resized}
+use Rattle.model_catalogue.specs.Resized.{patched_quota, quota_resized}
 use Rattle.model_catalogue.proofs.Added.{taken_id_small, taken_ids_small, variation_rows-length, item_added_is, item_changed_is, variation_added_is, quota_added_is, resized_is}
 use Rattle.model_rows.specs.declared.changes.Change.TheVariants.{PutItem, PutQuota}
-use Rattle.model_rows.specs.Change.{changed}
+use Rattle.model_rows.specs.Change.{change_applied}
 use Rattle.model_rows.specs.Lists.{State}
 use Rattle.model_rows.specs.Numbered.{with_item, with_variation, with_quota}
 use Rattle.model_invariant.specs.Limits.{IsLimitedItem, IsLimitedVariation, IsLimitedQuota}
@@ -80,7 +80,7 @@ item_sound new state rows h fit sound =
     let all = subst (λ (n : ℕ). TakesSome n state.next.variation state.lists.catalogue.variations) (sym (variation_rows-length new.variations state.next.item state.next.variation)) some in
     subst (λ (r : ItemRows). IsSound (with_item r state)) a.is_rows (sound_item state made refl one all (variation_rows_count new.variations state.next.item state.next.variation) (made_of_it new.variations state.next.item state.next.variation) (record { name = fit.name; price = fit.price }) (rows_limited new.variations state.next.item state.next.variation fit.variations) sound)
 
-pub item_change_sound : (id : ℕ) (patch : ItemPatch) (state : State) (row : Item) → item_changed id patch state.lists.catalogue ≡ Ok row → IsFitItemPatch patch → IsSound state → IsSound (changed (PutItem row) state)
+pub item_change_sound : (id : ℕ) (patch : ItemPatch) (state : State) (row : Item) → item_changed id patch state.lists.catalogue ≡ Ok row → IsFitItemPatch patch → IsSound state → IsSound (change_applied (PutItem row) state)
 item_change_sound id patch state row h fit sound =
     let c = item_changed_is id patch state.lists.catalogue row h in
     let own : row.id ≡ id = sym (ap (λ (r : Item). r.id) c.is_row) ∙ key-row_at (λ (r : Item). r.id) id state.lists.catalogue.items c.old c.stood in
@@ -100,7 +100,7 @@ quota_sound new state row h fit sound =
     let a = quota_added_is new state.next.quota state.lists.catalogue row h in
     sound_quota state row (sym (ap (λ (r : Quota). r.id) a.is_row)) (takes_it state.next.quota state.lists.catalogue.quotas a.has_room) (added_members new state.next.quota state.lists.catalogue row h) (subst IsLimitedQuota a.is_row (record { name = fit.name; size = fit.size })) sound
 
-pub resize_sound : (id : ℕ) (patch : QuotaPatch) (state : State) (row : Quota) → resized id patch state.lists.catalogue ≡ Ok row → IsFitQuotaPatch patch → IsSound state → IsSound (changed (PutQuota row) state)
+pub resize_sound : (id : ℕ) (patch : QuotaPatch) (state : State) (row : Quota) → quota_resized id patch state.lists.catalogue ≡ Ok row → IsFitQuotaPatch patch → IsSound state → IsSound (change_applied (PutQuota row) state)
 resize_sound id patch state row h fit sound =
     let c = resized_is id patch state.lists.catalogue row h in
     let own : row.id ≡ id = sym (ap (λ (r : Quota). r.id) c.is_row) ∙ key-row_at (λ (r : Quota). r.id) id state.lists.catalogue.quotas c.old c.stood in

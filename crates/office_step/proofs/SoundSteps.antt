@@ -12,7 +12,7 @@ use Rattle.model_catalogue.specs.ItemAdded.{item_added}
 use Rattle.model_catalogue.specs.ItemChanged.{item_changed}
 use Rattle.model_catalogue.specs.VariationAdded.{variation_added}
 use Rattle.model_catalogue.specs.QuotaAdded.{quota_added}
-use Rattle.model_catalogue.specs.Resized.{resized}
+use Rattle.model_catalogue.specs.Resized.{quota_resized}
 use Rattle.model_rows.specs.declared.rows.CartPos.{CartPos}
 use Rattle.model_rows.specs.declared.rows.OrderPos.{OrderPos}
 use Rattle.model_rows.specs.declared.rows.OrderRows.{OrderRows}
@@ -20,7 +20,7 @@ use Rattle.model_rows.specs.declared.rows.Voucher.{Voucher}
 use Rattle.model_rows.specs.declared.rows.Waiting.{Waiting}
 use Rattle.model_rows.specs.declared.rows.CheckinList.{CheckinList}
 use Rattle.model_rows.specs.declared.changes.Change.TheVariants.{PutItem, PutQuota}
-use Rattle.model_rows.specs.Change.{changed}
+use Rattle.model_rows.specs.Change.{change_applied}
 use Rattle.model_rows.specs.Lists.{State}
 use Rattle.model_rows.specs.Numbered.{with_item, with_variation, with_quota}
 use Rattle.model_invariant.specs.Sound.{IsSound}
@@ -59,17 +59,17 @@ use Rattle.decide_waiting.specs.Joined.{entry_joined}
 use Rattle.decide_waiting.specs.Changed.{entry_changed}
 use Rattle.decide_waiting.specs.Left.{entry_left}
 use Rattle.decide_waiting.specs.Sending.{with_sent, voucher_sent}
-use Rattle.decide_waiting.specs.Serving.{served, all_sent, all_served}
+use Rattle.decide_waiting.specs.Serving.{entries_served, all_sent, all_served}
 use Rattle.decide_waiting.proofs.Joins.{joined_sound, joined_moment}
 use Rattle.decide_waiting.proofs.Leaves.{changed_sound as changed_entry_sound, changed_moment as changed_entry_moment, left_sound, left_moment}
 use Rattle.decide_waiting.proofs.Sent.{sent_is}
 use Rattle.decide_waiting.proofs.SentSound.{sent_sound, served_sound}
 use Rattle.decide_door.specs.ListAdded.{list_added}
-use Rattle.decide_door.specs.Scanned.{scanned}
+use Rattle.decide_door.specs.Scanned.{ticket_scanned}
 use Rattle.decide_door.proofs.Added.{added_sound as list_sound, added_moment as list_moment}
 use Rattle.decide_door.proofs.Admitted.{admitted_sound, admitted_moment}
 use Rattle.office_step.specs.Step.{step, step_now, item_step, item_change_step, variation_step, quota_step, resize_step, voucher_step, voucher_change_step, voucher_drop_step, cart_step, bulk_step, order_step, move_step, cart_drop_step, join_step, priority_step, leave_step, send_step, periodic_step, checkin_list_step, redeem_step}
-use Rattle.office_step.specs.PeriodicWork.{ended, periodic_done}
+use Rattle.office_step.specs.PeriodicWork.{pending_ended, periodic_done}
 use Rattle.office_step.proofs.Catalogue.{item_sound, item_change_sound, variation_sound, quota_sound, resize_sound}
 
 -- ---- sending and periodic work
@@ -81,12 +81,12 @@ served_moment : (draw : Draw) (entries : List Waiting) (state : State) → (all_
 served_moment draw [] state = refl
 served_moment draw (e ∷ es) state = served_moment draw es (with_sent draw e state)
 
-pub ended_sound : (state : State) → IsSound state → IsSound (ended state)
+pub ended_sound : (state : State) → IsSound state → IsSound (pending_ended state)
 ended_sound state sound = dropped_carts_sound (orders_expired state) (expired_sound state sound)
 
 pub worked_moment : (draw : Draw) (state : State) → (periodic_done draw state).0.moment ≡ state.moment
 unfolding all_served orders_expired carts_dropped
-worked_moment draw state = served_moment draw (served (ended state)) (ended state)
+worked_moment draw state = served_moment draw (entries_served (pending_ended state)) (pending_ended state)
 
 -- ---- each step
 
@@ -103,7 +103,7 @@ module _ (fit : Type 0) (state : State) where
   item_after (Err refusal) known = as_it_was
   item_after (Ok made) known = record { sound = known made refl; moment = refl }
 
-  item_change_after : (r : Result Item CatalogueRefusal) → ((row : Item) → r ≡ Ok row → fit → IsSound state → IsSound (changed (PutItem row) state)) → IsSoundStep fit state (item_change_step state r).0
+  item_change_after : (r : Result Item CatalogueRefusal) → ((row : Item) → r ≡ Ok row → fit → IsSound state → IsSound (change_applied (PutItem row) state)) → IsSoundStep fit state (item_change_step state r).0
   item_change_after (Err refusal) known = as_it_was
   item_change_after (Ok row) known = record { sound = known row refl; moment = refl }
 
@@ -115,7 +115,7 @@ module _ (fit : Type 0) (state : State) where
   quota_after (Err refusal) known = as_it_was
   quota_after (Ok row) known = record { sound = known row refl; moment = refl }
 
-  resize_after : (r : Result Quota CatalogueRefusal) → ((row : Quota) → r ≡ Ok row → fit → IsSound state → IsSound (changed (PutQuota row) state)) → IsSoundStep fit state (resize_step state r).0
+  resize_after : (r : Result Quota CatalogueRefusal) → ((row : Quota) → r ≡ Ok row → fit → IsSound state → IsSound (change_applied (PutQuota row) state)) → IsSoundStep fit state (resize_step state r).0
   resize_after (Err refusal) known = as_it_was
   resize_after (Ok row) known = record { sound = known row refl; moment = refl }
 
@@ -187,7 +187,7 @@ sound_step (AddItem new) draw state = item_after (Fits (AddItem new) draw) state
 sound_step (ChangeItem id patch) draw state = item_change_after (Fits (ChangeItem id patch) draw) state (item_changed id patch state.lists.catalogue) (λ row h fit. item_change_sound id patch state row h fit.0)
 sound_step (AddVariation item new) draw state = variation_after (Fits (AddVariation item new) draw) state (variation_added item new state.next.variation state.lists.catalogue) (λ made h fit. variation_sound item new state made h fit.0)
 sound_step (AddQuota new) draw state = quota_after (Fits (AddQuota new) draw) state (quota_added new state.next.quota state.lists.catalogue) (λ row h fit. quota_sound new state row h fit.0)
-sound_step (ResizeQuota id patch) draw state = resize_after (Fits (ResizeQuota id patch) draw) state (resized id patch state.lists.catalogue) (λ row h fit. resize_sound id patch state row h fit.0)
+sound_step (ResizeQuota id patch) draw state = resize_after (Fits (ResizeQuota id patch) draw) state (quota_resized id patch state.lists.catalogue) (λ row h fit. resize_sound id patch state row h fit.0)
 sound_step (AddVoucher new) draw state = voucher_after (Fits (AddVoucher new) draw) state (voucher_made new draw state) (λ after row h. record {
   sound = λ fit sound. made_sound new draw state after row fit.0 fit.1 sound h;
   moment = made_moment new draw state after row h;
@@ -241,14 +241,14 @@ sound_step (SendVoucher id) draw state = send_after (Fits (SendVoucher id) draw)
   moment = sent_moment id draw state after row h;
 })
 sound_step Periodic draw state = periodic_after (Fits Periodic draw) state (periodic_done draw state) (record {
-  sound = λ fit sound. served_sound draw fit.1 (ended state) (ended_sound state sound);
+  sound = λ fit sound. served_sound draw fit.1 (pending_ended state) (ended_sound state sound);
   moment = worked_moment draw state;
 })
 sound_step (AddCheckinList new) draw state = checkin_list_after (Fits (AddCheckinList new) draw) state (list_added new state) (λ after row h. record {
   sound = λ fit sound. list_sound new state after row fit.0 sound h;
   moment = list_moment new state after row h;
 })
-sound_step (Redeem list ticket scan) draw state = redeem_after (Fits (Redeem list ticket scan) draw) state (scanned list ticket scan state) (λ after position h. record {
+sound_step (Redeem list ticket scan) draw state = redeem_after (Fits (Redeem list ticket scan) draw) state (ticket_scanned list ticket scan state) (λ after position h. record {
   sound = λ fit sound. admitted_sound list ticket scan state after position fit.0 sound h;
   moment = admitted_moment list ticket scan state after position h;
 })

@@ -27,22 +27,22 @@ use Rattle.model_commands.specs.declared.replies.Refusal.TheVariants as refusals
 use Rattle.model_commands.specs.declared.replies.Reply.{Reply}
 use Rattle.model_commands.specs.declared.replies.Reply.TheVariants.{Availability as TheAvailability, Status as TheStatus, Found, Refused}
 use Rattle.office_step.specs.ShownRows.{show_item, show_quota, show_voucher, show_cart, show_order, show_waiting, show_checkin_list, show_ticket}
-use Rattle.model_commands.specs.Pages.{listed}
+use Rattle.model_commands.specs.Pages.{page_listed}
 
 -- a page of the positions that belong to a check-in list, by id, if there is such a list
 abbrev pub tickets_listed : ℕ → ℕ → Lists → Option CheckinList → Reply
 tickets_listed id number lists None = Refused kinds.List (refusals.Door NoList)
-tickets_listed id number lists (Some list) = listed (Tickets id) (show_ticket list lists) number (belonging list lists)
+tickets_listed id number lists (Some list) = page_listed (Tickets id) (show_ticket list lists) number (belonging list lists)
 
 -- a page of a list
 abbrev pub list_of : Resource → ℕ → Lists → Reply
-list_of Items number lists = listed Items (show_item lists) number lists.catalogue.items
-list_of Quotas number lists = listed Quotas show_quota number lists.catalogue.quotas
-list_of Vouchers number lists = listed Vouchers (show_voucher lists) number lists.vouchers
-list_of Carts number lists = listed Carts show_cart number lists.carts
-list_of Orders number lists = listed Orders (show_order lists) number lists.orders
-list_of WaitingEntries number lists = listed WaitingEntries show_waiting number lists.waiting
-list_of CheckinLists number lists = listed CheckinLists show_checkin_list number lists.checkin_lists
+list_of Items number lists = page_listed Items (show_item lists) number lists.catalogue.items
+list_of Quotas number lists = page_listed Quotas show_quota number lists.catalogue.quotas
+list_of Vouchers number lists = page_listed Vouchers (show_voucher lists) number lists.vouchers
+list_of Carts number lists = page_listed Carts show_cart number lists.carts
+list_of Orders number lists = page_listed Orders (show_order lists) number lists.orders
+list_of WaitingEntries number lists = page_listed WaitingEntries show_waiting number lists.waiting
+list_of CheckinLists number lists = page_listed CheckinLists show_checkin_list number lists.checkin_lists
 list_of (Tickets id) number lists = tickets_listed id number lists (checkin_list_at id lists)
 
 -- an item with its variations, or a refusal where there is none

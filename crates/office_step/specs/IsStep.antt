@@ -5,7 +5,7 @@ use Rattle.base_values.specs.declared.draw.Draw.{Draw}
 use Rattle.model_rows.specs.declared.changes.Change.{Change}
 use Rattle.model_rows.specs.declared.changes.Change.TheVariants.{PutItem, PutVariation, PutQuota}
 use Rattle.model_rows.specs.Lists.{Lists, State}
-use Rattle.model_rows.specs.Change.{after_all, applied}
+use Rattle.model_rows.specs.Change.{after_all, changes_applied}
 use Rattle.model_invariant.specs.Sound.{IsSound}
 use Rattle.book_tally.specs.declared.shifts.Drafted.{Drafted}
 use Rattle.book_tally.specs.Shifts.{AreShifts}
@@ -43,7 +43,7 @@ pub record IsClosed (at : ℕ) (lists : Lists) (draft : DraftState) (told : Resu
 -- changes lead to the office after the step, and the reply is that of the step. The changes are those of the command and no
 -- others, in their order. A refusal has no change, and leaves the next ids. What the changes shift of the counts is right.
 pub record IsStep (command : Command) (at : ℕ) (draw : Draw) (state : State) (made : Drafted × Reply) : Type 0 where
-  pub step : (applied made.0.changes at state, made.1) ≡ step command at draw state
+  pub step : (changes_applied made.0.changes at state, made.1) ≡ step command at draw state
   pub changes : made.0.changes.list ≡ changes_of command draw (record state { moment = at }) made.1
   pub refused : RefusesWithoutChange state (made.0.changes, made.1)
   pub shifts : HasShifts at state.lists made.0

@@ -9,8 +9,8 @@ pub use Rattle.decide_orders.specs.Expired.{orders_expired, carts_dropped, expir
 use Rattle.decide_waiting.specs.Serving.{all_served, served_changes}
 
 -- the pending orders whose end is before the moment are expired, and the dead cart positions are gone
-abbrev pub ended : State → State
-ended state = carts_dropped (orders_expired state)
+abbrev pub pending_ended : State → State
+pending_ended state = carts_dropped (orders_expired state)
 
 -- how many orders and cart positions end, and how many entries are then sent a voucher
 abbrev pub periodic_counts : State → List ℕ → PeriodicCounts
@@ -21,13 +21,13 @@ periodic_counts state sent = record {
 }
 
 -- what was served, with these numbers
-abbrev pub counted : State → State × List ℕ → State × PeriodicCounts
-counted before served = (served.0, periodic_counts before served.1)
+abbrev pub work_counted : State → State × List ℕ → State × PeriodicCounts
+work_counted before served = (served.0, periodic_counts before served.1)
 
 -- first what is overdue ends, then all who wait are served, in the box office as it is then
 abbrev pub periodic_done : Draw → State → State × PeriodicCounts
-periodic_done draw state = counted state (all_served draw (ended state))
+periodic_done draw state = work_counted state (all_served draw (pending_ended state))
 
 -- what it changes: orders that expire, cart positions that go, then each voucher that is sent and the entry that has it
 abbrev pub periodic_changes : Draw → State → List Change
-periodic_changes draw state = expired_changes state ++ dropped_changes (orders_expired state) ++ served_changes draw (ended state)
+periodic_changes draw state = expired_changes state ++ dropped_changes (orders_expired state) ++ served_changes draw (pending_ended state)

@@ -11,7 +11,7 @@ use Rattle.model_catalogue.specs.ItemAdded.{item_added}
 use Rattle.model_catalogue.specs.ItemChanged.{item_changed}
 use Rattle.model_catalogue.specs.VariationAdded.{variation_added}
 use Rattle.model_catalogue.specs.QuotaAdded.{quota_added}
-use Rattle.model_catalogue.specs.Resized.{resized}
+use Rattle.model_catalogue.specs.Resized.{quota_resized}
 use Rattle.model_rows.specs.declared.rows.CartPos.{CartPos}
 use Rattle.model_rows.specs.declared.rows.OrderRows.{OrderRows}
 use Rattle.model_rows.specs.declared.rows.Voucher.{Voucher}
@@ -20,7 +20,7 @@ use Rattle.model_rows.specs.declared.rows.CheckinList.{CheckinList}
 use Rattle.model_rows.specs.declared.rows.OrderPos.{OrderPos}
 use Rattle.model_rows.specs.declared.changes.Change.TheVariants.{PutItem, PutQuota}
 use Rattle.model_rows.specs.Lists.{State}
-use Rattle.model_rows.specs.Change.{Changed, changed}
+use Rattle.model_rows.specs.Change.{Changed, change_applied}
 use Rattle.model_rows.specs.Numbered.{with_item, with_variation, with_quota}
 use Rattle.model_commands.specs.declared.vouchers.Verdict.{Verdict}
 use Rattle.model_commands.specs.declared.vouchers.VoucherRefusal.{VoucherRefusal}
@@ -43,7 +43,7 @@ use Rattle.decide_waiting.specs.Changed.{entry_changed}
 use Rattle.decide_waiting.specs.Left.{entry_left}
 use Rattle.decide_waiting.specs.Sending.{voucher_sent}
 use Rattle.decide_door.specs.ListAdded.{list_added}
-use Rattle.decide_door.specs.Scanned.{scanned}
+use Rattle.decide_door.specs.Scanned.{ticket_scanned}
 use Rattle.model_commands.specs.declared.requests.Command.{Command}
 use Rattle.model_commands.specs.declared.requests.Command.TheVariants as commands
 use Rattle.model_commands.specs.declared.requests.Kind.{Kind}
@@ -71,7 +71,7 @@ item_step state (Err refusal) = (state, Refused kinds.AddItem (refusals.Catalogu
 
 -- the changed item takes its own place, and is shown with its variations; a refusal leaves the office as it was
 abbrev pub item_change_step : State → Result Item CatalogueRefusal → State × Reply
-item_change_step state (Ok row) = (changed (PutItem row) state, Found (show_item state.lists row))
+item_change_step state (Ok row) = (change_applied (PutItem row) state, Found (show_item state.lists row))
 item_change_step state (Err refusal) = (state, Refused kinds.ChangeItem (refusals.Catalogue refusal))
 
 -- a new variation is stored, and shown with its price; a refusal leaves the office as it was
@@ -86,7 +86,7 @@ quota_step state (Err refusal) = (state, Refused kinds.AddQuota (refusals.Catalo
 
 -- the quota with its new size takes its own place, and is shown; a refusal leaves the office as it was
 abbrev pub resize_step : State → Result Quota CatalogueRefusal → State × Reply
-resize_step state (Ok row) = (changed (PutQuota row) state, Found (rows.Quota row))
+resize_step state (Ok row) = (change_applied (PutQuota row) state, Found (rows.Quota row))
 resize_step state (Err refusal) = (state, Refused kinds.ResizeQuota (refusals.Catalogue refusal))
 
 -- a new voucher is shown with its uses in the office that has it; a refusal leaves the office as it was
@@ -174,7 +174,7 @@ step_now (commands.AddItem new) draw state = item_step state (item_added new sta
 step_now (commands.ChangeItem id patch) draw state = item_change_step state (item_changed id patch state.lists.catalogue)
 step_now (commands.AddVariation item new) draw state = variation_step state (variation_added item new state.next.variation state.lists.catalogue)
 step_now (commands.AddQuota new) draw state = quota_step state (quota_added new state.next.quota state.lists.catalogue)
-step_now (commands.ResizeQuota id patch) draw state = resize_step state (resized id patch state.lists.catalogue)
+step_now (commands.ResizeQuota id patch) draw state = resize_step state (quota_resized id patch state.lists.catalogue)
 step_now (commands.AddVoucher new) draw state = voucher_step state (voucher_made new draw state)
 step_now (commands.ChangeVoucher id patch) draw state = voucher_change_step state (voucher_changed id patch state)
 step_now (commands.DropVoucher id) draw state = voucher_drop_step state (voucher_deleted id state)
@@ -190,7 +190,7 @@ step_now (commands.DropWaiting id) draw state = leave_step state (entry_left id 
 step_now (commands.SendVoucher id) draw state = send_step state (voucher_sent id draw state)
 step_now commands.Periodic draw state = periodic_step (periodic_done draw state)
 step_now (commands.AddCheckinList new) draw state = checkin_list_step state (list_added new state)
-step_now (commands.Redeem list ticket scan) draw state = redeem_step state (scanned list ticket scan state)
+step_now (commands.Redeem list ticket scan) draw state = redeem_step state (ticket_scanned list ticket scan state)
 
 -- one command at a moment, with a draw: the office after it, and its reply; the moment is stored in any case
 abbrev pub step : Command → ℕ → Draw → State → State × Reply

@@ -46,5 +46,5 @@ ending = record {
 }
 
 -- so many places are blocked, and so many cart positions count
-abbrev pub used : ℕ → ℕ → Usage
-used blocked carts = record { paid = 0; pending = 0; blocked = blocked; carts = carts; waiting = 0; exited = 0 }
+abbrev pub ending_usage : ℕ → ℕ → Usage
+ending_usage blocked carts = record { paid = 0; pending = 0; blocked = blocked; carts = carts; waiting = 0; exited = 0 }

@@ -35,24 +35,24 @@ abbrev pub ticket : OrderPos
 ticket = record { id = 1; order = 1; positionid = 1; product = record { item = 1; variation = None }; price = 2300; voucher = None; secret = []; discount = 0 }
 
 -- the ticket comes in or goes out, by a check-in list and at a moment
-abbrev pub seen : ℕ → ℕ → CheckinKind → ℕ → Checkin
-seen id list kind at = record { id = id; list = list; position = 1; kind = kind; datetime = at; nonce = None }
+abbrev pub ticket_seen : ℕ → ℕ → CheckinKind → ℕ → Checkin
+ticket_seen id list kind at = record { id = id; list = list; position = 1; kind = kind; datetime = at; nonce = None }
 
 -- the ticket comes in when the doors open
 abbrev pub came_in : Checkin
-came_in = seen 1 1 Entry doors
+came_in = ticket_seen 1 1 Entry doors
 
 -- by another list, an hour later
 abbrev pub went_out : Checkin
-went_out = seen 2 2 Exit (doors + 3600)
+went_out = ticket_seen 2 2 Exit (doors + 3600)
 
 -- it comes in again by the first list, an hour after it went out
 abbrev pub came_back : Checkin
-came_back = seen 3 1 Entry (doors + 7200)
+came_back = ticket_seen 3 1 Entry (doors + 7200)
 
 -- told after the entry, it was a minute before it
 abbrev pub told_late : Checkin
-told_late = seen 2 2 Exit (doors - 60)
+told_late = ticket_seen 2 2 Exit (doors - 60)
 
 -- what the doors have seen of it: it came in
 abbrev pub inside : List Checkin

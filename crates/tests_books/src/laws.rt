@@ -2,7 +2,7 @@
 //! ticket goes out.
 
 ghost use Rattle.std.specs.Prelude.{◌≡◌, ◌+◌};
-ghost use Rattle.tests_books.specs.Ending.{most_steps, start, five_places, ending, used};
+ghost use Rattle.tests_books.specs.Ending.{most_steps, start, five_places, ending, ending_usage};
 ghost use Rattle.tests_books.specs.Exited.{evening, releasing, keeping, inside, outside, back, late, door, places};
 ghost use Rattle.model_rows.specs.declared.rows.Status.TheVariants.{Pending, Paid, Expired};
 ghost use Rattle.model_rows.specs.Total.{total};
@@ -21,10 +21,10 @@ pub fn an_ended_voucher_is_counted_once()
 /// itself, until it ends.
 #[tactic(auto, unfolding(model_rows::specs::Usage::usage_of, model_rows::specs::Usage::blocked_by))]
 pub fn an_ended_voucher_uncovers_its_cart()
-    ensures last { usage_of ending (start + 600) five_places ≡ used 2 0 }
-    ensures later { usage_of ending (start + 601) five_places ≡ used 0 1 }
-    ensures held { usage_of ending (start + 1800) five_places ≡ used 0 1 }
-    ensures ended { usage_of ending (start + 1801) five_places ≡ used 0 0 }
+    ensures last { usage_of ending (start + 600) five_places ≡ ending_usage 2 0 }
+    ensures later { usage_of ending (start + 601) five_places ≡ ending_usage 0 1 }
+    ensures held { usage_of ending (start + 1800) five_places ≡ ending_usage 0 1 }
+    ensures ended { usage_of ending (start + 1801) five_places ≡ ending_usage 0 0 }
 {}
 
 /// A paid ticket takes its place while it is in. Once it has gone out, by whatever list, it is still paid and takes none, until

@@ -21,7 +21,7 @@ use Rattle.web_responses.specs.Pages.{page_path, resource_path}
 use Rattle.web_api.specs.declared.path.Target.TheVariants as targets
 use Rattle.web_api.specs.declared.routes.Route.{Route}
 use Rattle.web_api.specs.declared.routes.Route.TheVariants as routes
-use Rattle.web_api.specs.Page.{IsNamed, decoded, page_in, page_of}
+use Rattle.web_api.specs.Page.{IsNamed, text_decoded, page_in, page_of}
 use Rattle.web_api.specs.Path.{◌>>=◌, in_shop, query_of, target_by, target_of}
 use Rattle.matchit.specs.Level.{IsText}
 use Rattle.web_api.specs.Table.{IsName, IsSegment, has, path_with}
@@ -45,7 +45,7 @@ number_back n h =
     list_all-from_AllPass is_ascii_digit (decimal n) (each_digit (λ c. is_ascii_digit c ≡ true) (λ c low high. grind (arith, nat_tests)) (decimal n) numeral.0.1) in
     rw (some, few, digits) (ap Some numeral.1)
 
-decoded_back : (n : ℕ) → n < 2 ^ 64 → decoded (decimal n) ≡ decimal n
+decoded_back : (n : ℕ) → n < 2 ^ 64 → text_decoded (decimal n) ≡ decimal n
 decoded_back n h =
     let plain : All IsPlain (decimal n) = each_digit IsPlain (λ c low high. ((λ e. omega arith), (λ e. omega arith))) (decimal n) (decimal_is_IsNumeral n h).0.1 in
     ap utf8_lossy (decode_plain (decimal n) plain) ∙ utf8_lossy-IsUtf8 (decimal n) (IsUtf8-from_ascii (decimal n) (IsAscii-decimal n h))
@@ -55,7 +55,7 @@ word_plain =
     All-cons IsPlain 112 (codes "age") ((λ e. omega arith), (λ e. omega arith)) (All-cons IsPlain 97 (codes "ge") ((λ e. omega arith), (λ e. omega arith))
     (All-cons IsPlain 103 (codes "e") ((λ e. omega arith), (λ e. omega arith)) (All-cons IsPlain 101 [] ((λ e. omega arith), (λ e. omega arith)) (All-nil IsPlain))))
 
-word_back : decoded (codes "page") ≡ codes "page"
+word_back : text_decoded (codes "page") ≡ codes "page"
 unfolding lib.Utf8.encode
 word_back = ap utf8_lossy (decode_plain (codes "page") word_plain) ∙ utf8_lossy-IsUtf8 (codes "page") (codes "page", (refl, refl))
 

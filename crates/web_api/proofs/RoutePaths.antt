@@ -10,7 +10,7 @@ use Rattle.matchit.specs.Seek.{seek, step, first}
 use Rattle.web_api.specs.declared.routes.Route.{Route}
 use Rattle.web_api.specs.declared.routes.Route.TheVariants as routes
 use Rattle.web_bodies.specs.declared.form.MoveName.TheVariants as names
-use Rattle.web_api.specs.Routes.{Rows, all_routes, found, route_of}
+use Rattle.web_api.specs.Routes.{Rows, all_routes, route_found, route_of}
 use Rattle.web_api.specs.Table.{IsName, IsSegment, has, path_with}
 use Rattle.web_api.proofs.Written.{written, all_written}
 use Rattle.web_api.proofs.Seeking.{along, behind_id, none_there, others_path, slashed, shorn, steps}
@@ -25,8 +25,8 @@ rows_after front = shorn (step param_token (rows_at front))
 -- a path with an id behind a front
 with_id : (front rest : List ℕ) (b : ℕ) (id : List ℕ) (route : Route) → has 47 (b ∷ id) ≡ false
     → seek 0 (step b (rows_at front)) (id ++ 47 ∷ rest) ≡ None → step param_token (rows_at front) ≡ slashed (rows_after front) → 0 < length (rows_after front)
-    → found (seek 0 (slashed (rows_after front)) (47 ∷ rest)) ≡ Some route
-    → found (first written (front ++ (b ∷ (id ++ 47 ∷ rest)))) ≡ Some route
+    → route_found (seek 0 (slashed (rows_after front)) (47 ∷ rest)) ≡ Some route
+    → route_found (first written (front ++ (b ∷ (id ++ 47 ∷ rest)))) ≡ Some route
 with_id front rest b id route h none wild some is =
     along front (b ∷ (id ++ 47 ∷ rest)) written route (behind_id b id rest (rows_at front) (rows_after front) route h none wild some is)
 
@@ -65,7 +65,7 @@ no_byte_ticket b path h = let m : (256 == b) ≡ false = grind (arith, nat_tests
 
 -- behind a check-in list's id, the path of a scan goes on with its ticket
 ticket_sought : (ticket : List ℕ) → IsSegment ticket
-    → found (seek 0 (slashed (rows_after (codes "/checkinlists/"))) (codes "/positions/" ++ ticket ++ codes "/redeem/")) ≡ Some routes.Redeem
+    → route_found (seek 0 (slashed (rows_after (codes "/checkinlists/"))) (codes "/positions/" ++ ticket ++ codes "/redeem/")) ≡ Some routes.Redeem
 unfolding matchit_on_literals
 ticket_sought (b ∷ ticket) n =
     along (codes "/positions/") (b ∷ (ticket ++ codes "/redeem/")) (slashed (rows_after (codes "/checkinlists/"))) routes.Redeem
@@ -87,52 +87,52 @@ no_byte_cart b id h other = by (98 == b) refl
     by false e = let m : (256 == b) ≡ false = grind (arith, nat_tests) in rw (m, e) (none_there 0 (id ++ 47 ∷ []))
 
 -- what is found at a path is found at the same path in other words
-at_path : (route : Route) (path other : List ℕ) → path ≡ other → found (first written other) ≡ Some route → found (first written path) ≡ Some route
+at_path : (route : Route) (path other : List ℕ) → path ≡ other → route_found (first written other) ≡ Some route → route_found (first written path) ≡ Some route
 at_path route path other e h = rw e h
 
-entry_sought : (id ticket : List ℕ) → IsName id → IsSegment ticket → found (first written (path_with id ticket routes.WaitingEntry)) ≡ Some routes.WaitingEntry
+entry_sought : (id ticket : List ℕ) → IsName id → IsSegment ticket → route_found (first written (path_with id ticket routes.WaitingEntry)) ≡ Some routes.WaitingEntry
 unfolding matchit_on_literals
 entry_sought (b ∷ id) ticket n s =
     at_path routes.WaitingEntry (path_with (b ∷ id) ticket routes.WaitingEntry) (codes "/waitinglistentries/" ++ (b ∷ (id ++ 47 ∷ []))) refl
     (with_id (codes "/waitinglistentries/") [] b id routes.WaitingEntry n.segment.slash (no_byte_waiting b (id ++ 47 ∷ []) n.segment.bytes.0) refl (lit< tt) refl)
 entry_sought [] ticket n s = let some : 0 < 0 = n.segment.some in absurd (omega arith)
 
-sending_sought : (id ticket : List ℕ) → IsName id → IsSegment ticket → found (first written (path_with id ticket routes.SendVoucher)) ≡ Some routes.SendVoucher
+sending_sought : (id ticket : List ℕ) → IsName id → IsSegment ticket → route_found (first written (path_with id ticket routes.SendVoucher)) ≡ Some routes.SendVoucher
 unfolding matchit_on_literals
 sending_sought (b ∷ id) ticket n s =
     at_path routes.SendVoucher (path_with (b ∷ id) ticket routes.SendVoucher) (codes "/waitinglistentries/" ++ (b ∷ (id ++ 47 ∷ (codes "send_voucher/")))) refl
     (with_id (codes "/waitinglistentries/") (codes "send_voucher/") b id routes.SendVoucher n.segment.slash (no_byte_waiting b (id ++ 47 ∷ (codes "send_voucher/")) n.segment.bytes.0) refl (lit< tt) refl)
 sending_sought [] ticket n s = let some : 0 < 0 = n.segment.some in absurd (omega arith)
 
-list_sought : (id ticket : List ℕ) → IsName id → IsSegment ticket → found (first written (path_with id ticket routes.CheckinList)) ≡ Some routes.CheckinList
+list_sought : (id ticket : List ℕ) → IsName id → IsSegment ticket → route_found (first written (path_with id ticket routes.CheckinList)) ≡ Some routes.CheckinList
 unfolding matchit_on_literals
 list_sought (b ∷ id) ticket n s =
     at_path routes.CheckinList (path_with (b ∷ id) ticket routes.CheckinList) (codes "/checkinlists/" ++ (b ∷ (id ++ 47 ∷ []))) refl
     (with_id (codes "/checkinlists/") [] b id routes.CheckinList n.segment.slash (no_byte_door b (id ++ 47 ∷ []) n.segment.bytes.0) refl (lit< tt) refl)
 list_sought [] ticket n s = let some : 0 < 0 = n.segment.some in absurd (omega arith)
 
-status_sought : (id ticket : List ℕ) → IsName id → IsSegment ticket → found (first written (path_with id ticket routes.Status)) ≡ Some routes.Status
+status_sought : (id ticket : List ℕ) → IsName id → IsSegment ticket → route_found (first written (path_with id ticket routes.Status)) ≡ Some routes.Status
 unfolding matchit_on_literals
 status_sought (b ∷ id) ticket n s =
     at_path routes.Status (path_with (b ∷ id) ticket routes.Status) (codes "/checkinlists/" ++ (b ∷ (id ++ 47 ∷ (codes "status/")))) refl
     (with_id (codes "/checkinlists/") (codes "status/") b id routes.Status n.segment.slash (no_byte_door b (id ++ 47 ∷ (codes "status/")) n.segment.bytes.0) refl (lit< tt) refl)
 status_sought [] ticket n s = let some : 0 < 0 = n.segment.some in absurd (omega arith)
 
-tickets_sought : (id ticket : List ℕ) → IsName id → IsSegment ticket → found (first written (path_with id ticket routes.Tickets)) ≡ Some routes.Tickets
+tickets_sought : (id ticket : List ℕ) → IsName id → IsSegment ticket → route_found (first written (path_with id ticket routes.Tickets)) ≡ Some routes.Tickets
 unfolding matchit_on_literals
 tickets_sought (b ∷ id) ticket n s =
     at_path routes.Tickets (path_with (b ∷ id) ticket routes.Tickets) (codes "/checkinlists/" ++ (b ∷ (id ++ 47 ∷ (codes "positions/")))) refl
     (with_id (codes "/checkinlists/") (codes "positions/") b id routes.Tickets n.segment.slash (no_byte_door b (id ++ 47 ∷ (codes "positions/")) n.segment.bytes.0) refl (lit< tt) refl)
 tickets_sought [] ticket n s = let some : 0 < 0 = n.segment.some in absurd (omega arith)
 
-scan_sought : (id ticket : List ℕ) → IsName id → IsSegment ticket → found (first written (path_with id ticket routes.Redeem)) ≡ Some routes.Redeem
+scan_sought : (id ticket : List ℕ) → IsName id → IsSegment ticket → route_found (first written (path_with id ticket routes.Redeem)) ≡ Some routes.Redeem
 unfolding matchit_on_literals
 scan_sought (b ∷ id) ticket n s =
     at_path routes.Redeem (path_with (b ∷ id) ticket routes.Redeem) (codes "/checkinlists/" ++ (b ∷ (id ++ 47 ∷ (codes "positions/" ++ ticket ++ codes "/redeem/")))) refl
     (with_id (codes "/checkinlists/") (codes "positions/" ++ ticket ++ codes "/redeem/") b id routes.Redeem n.segment.slash (no_byte_door b (id ++ 47 ∷ (codes "positions/" ++ ticket ++ codes "/redeem/")) n.segment.bytes.0) refl (lit< tt) (ticket_sought ticket s))
 scan_sought [] ticket n s = let some : 0 < 0 = n.segment.some in absurd (omega arith)
 
-pub sought : (route : Route) (id ticket : List ℕ) → IsName id → IsSegment ticket → found (first written (path_with id ticket route)) ≡ Some route
+pub sought : (route : Route) (id ticket : List ℕ) → IsName id → IsSegment ticket → route_found (first written (path_with id ticket route)) ≡ Some route
 unfolding matchit_on_literals
 sought routes.Items id ticket n s = refl
 sought routes.Quotas id ticket n s = refl
@@ -230,6 +230,6 @@ path_route route id ticket n s =
     rw (u, all_written) (sought route id ticket n s)
 
 -- a path that isn't found has no route
-pub none_sought : (path : List ℕ) → found (first written path) ≡ None → route_of path ≡ None
+pub none_sought : (path : List ℕ) → route_found (first written path) ≡ None → route_of path ≡ None
 unfolding route_of
-none_sought path e = elim (is_utf8 path) as (λ b. cond b (found (first all_routes path)) None ≡ None) [ true ↦ rw all_written e | false ↦ refl ]
+none_sought path e = elim (is_utf8 path) as (λ b. cond b (route_found (first all_routes path)) None ≡ None) [ true ↦ rw all_written e | false ↦ refl ]

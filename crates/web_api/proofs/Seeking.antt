@@ -8,7 +8,7 @@ use Rattle.matchit.specs.Seek.{seek, param_step, step, own, or_else, segment, ha
 use Rattle.matchit.specs.Level.{IsText}
 use Rattle.matchit.specs.Router.{RouteOf}
 use Rattle.web_api.specs.declared.routes.Route.{Route}
-use Rattle.web_api.specs.Routes.{Rows, found}
+use Rattle.web_api.specs.Routes.{Rows, route_found}
 use Rattle.web_api.specs.Table.{has}
 
 after_none : (path : List ℕ) → (param_step {K = RouteOf Route} [] path).1 ≡ []
@@ -34,12 +34,12 @@ steps [] rows = rows
 steps (b ∷ front) rows = steps front (step b rows)
 
 -- what is found along bytes that stand for themselves is found
-pub along : (front path : List ℕ) (rows : Rows) (route : Route) → found (seek 0 (steps front rows) path) ≡ Some route → found (seek 0 rows (front ++ path)) ≡ Some route
+pub along : (front path : List ℕ) (rows : Rows) (route : Route) → route_found (seek 0 (steps front rows) path) ≡ Some route → route_found (seek 0 rows (front ++ path)) ≡ Some route
 unfolding seek
 along [] path rows route h = h
 along (b ∷ front) path rows route h = by (seek 0 (step b rows) (front ++ path)) refl (along front path (step b rows) route h)
   where
-    by : (o : Option (RouteOf Route)) → seek 0 (step b rows) (front ++ path) ≡ o → found o ≡ Some route → found (seek 0 rows (b ∷ (front ++ path))) ≡ Some route
+    by : (o : Option (RouteOf Route)) → seek 0 (step b rows) (front ++ path) ≡ o → route_found o ≡ Some route → route_found (seek 0 rows (b ∷ (front ++ path))) ≡ Some route
     by (Some r) e is = rw e is
     by None e is = cc
 
@@ -96,15 +96,15 @@ id_taken b id rest rows h some =
     stepped (b ∷ (id ++ 47 ∷ [])) (b ∷ (id ++ 47 ∷ rest)) (slashed rows) (segment_of (b ∷ id) rest h) (longest_slash b id rows some) (all_slashed rows)
     ∙ ap (λ k. (k, slashed rows)) n
 
-kept : (o other : Option (RouteOf Route)) (route : Route) → found o ≡ Some route → found (or_else o other) ≡ Some route
+kept : (o other : Option (RouteOf Route)) (route : Route) → route_found o ≡ Some route → route_found (or_else o other) ≡ Some route
 kept (Some r) other route e = e
 kept None other route e = cc
 
 -- behind an id the rows go on at its slash
 pub behind_id : (b : ℕ) (id rest : List ℕ) (rows more : Rows) (route : Route) → has 47 (b ∷ id) ≡ false
     → seek 0 (step b rows) (id ++ 47 ∷ rest) ≡ None → step param_token rows ≡ slashed more → 0 < length more
-    → found (seek 0 (slashed more) (47 ∷ rest)) ≡ Some route
-    → found (seek 0 rows (b ∷ (id ++ 47 ∷ rest))) ≡ Some route
+    → route_found (seek 0 (slashed more) (47 ∷ rest)) ≡ Some route
+    → route_found (seek 0 rows (b ∷ (id ++ 47 ∷ rest))) ≡ Some route
 unfolding seek
 behind_id b id rest rows more route h none wild some is =
     let n : suc (length id) - 1 ≡ length id = omega arith in

@@ -18,7 +18,7 @@ use Rattle.web_bodies.specs.Body.{read_command, read_move, read_scan}
 use Rattle.web_api.specs.declared.endpoint.Endpoint.{Endpoint}
 use Rattle.web_api.specs.declared.endpoint.Endpoint.TheVariants as endpoints
 use Rattle.web_api.specs.declared.path.Target.{Target}
-use Rattle.web_api.specs.Call.{authorized, call, call_by, call_of, fault_response, listed, missing, redeemed, refused_by, written}
+use Rattle.web_api.specs.Call.{call_authorized, call, call_by, call_of, fault_response, list_call, missing, redeem_call, refused_by, write_call}
 use Rattle.web_api.specs.Endpoints.{endpoint_of, methods_of}
 use Rattle.web_api.specs.Page.{page_of}
 use Rattle.web_api.specs.Path.{target_of, ticket_named}
@@ -44,7 +44,7 @@ method_given : (method : List ℕ) (methods : Methods) → is_given (method_not_
 unfolding method_not_allowed
 method_given method methods = refl
 
-written_given : (read : Result Command BodyFault) → IsRefusedByGiven (written read)
+written_given : (read : Result Command BodyFault) → IsRefusedByGiven (write_call read)
 written_given (Ok command) = tt
 written_given (Err fault) = body_given fault
 
@@ -52,11 +52,11 @@ missing_given : (read : Result Move BodyFault) → IsRefusedByGiven (missing rea
 missing_given (Ok move) = not_found_given
 missing_given (Err fault) = body_given fault
 
-redeemed_given : (list : ℕ) (ticket : Option (List ℕ)) (read : Result Scan BodyFault) → IsRefusedByGiven (redeemed list ticket read)
+redeemed_given : (list : ℕ) (ticket : Option (List ℕ)) (read : Result Scan BodyFault) → IsRefusedByGiven (redeem_call list ticket read)
 redeemed_given list ticket (Ok scan) = tt
 redeemed_given list ticket (Err fault) = body_given fault
 
-listed_given : (resource : Resource) (page : Option ℕ) → IsRefusedByGiven (listed resource page)
+listed_given : (resource : Resource) (page : Option ℕ) → IsRefusedByGiven (list_call resource page)
 unfolding invalid_page
 listed_given resource None = refl
 listed_given resource (Some page) = tt
@@ -74,7 +74,7 @@ of_given : (m : Message) (ticket : Option (List ℕ)) (target : Option Target) �
 of_given m ticket None = by_given (is_write (verb_of m.method)) not_found not_found_given
 of_given m ticket (Some target) = at_given m ticket target (endpoint_of target (verb_of m.method))
 
-token_given : (token : Option (List ℕ)) (known : Option ℕ) (m : Message) (ticket : Option (List ℕ)) (target : Option Target) → IsRefusedByGiven (authorized token known (call_of m ticket target))
+token_given : (token : Option (List ℕ)) (known : Option ℕ) (m : Message) (ticket : Option (List ℕ)) (target : Option Target) → IsRefusedByGiven (call_authorized token known (call_of m ticket target))
 unfolding no_credentials invalid_token
 token_given None known m ticket target = refl
 token_given (Some token) None m ticket target = refl

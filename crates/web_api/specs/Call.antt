@@ -40,9 +40,9 @@ abbrev pub refused_body : BodyFault → Call
 refused_body fault = calls.WriteRefused (fault_response fault)
 
 -- a write with the command that its body says
-abbrev pub written : Result Command BodyFault → Call
-written (Ok command) = calls.Write command
-written (Err fault) = refused_body fault
+abbrev pub write_call : Result Command BodyFault → Call
+write_call (Ok command) = calls.Write command
+write_call (Err fault) = refused_body fault
 
 -- a move of an order that there isn't: its body is read first, and only then it is 404
 abbrev pub missing : Result Move BodyFault → Call
@@ -50,25 +50,25 @@ missing (Ok move) = calls.WriteRefused not_found
 missing (Err fault) = refused_body fault
 
 -- a scan of the ticket that the path names, at a check-in list
-abbrev pub redeemed : ℕ → Option (List ℕ) → Result Scan BodyFault → Call
-redeemed door ticket (Ok scan) = calls.Write (commands.Redeem door (ticket_in ticket) scan)
-redeemed door ticket (Err fault) = refused_body fault
+abbrev pub redeem_call : ℕ → Option (List ℕ) → Result Scan BodyFault → Call
+redeem_call door ticket (Ok scan) = calls.Write (commands.Redeem door (ticket_in ticket) scan)
+redeem_call door ticket (Err fault) = refused_body fault
 
 -- a page of a list: 404 where its number can't be read
-abbrev pub listed : Resource → Option ℕ → Call
-listed resource None = calls.ReadRefused invalid_page
-listed resource (Some page) = calls.Read (queries.List resource page)
+abbrev pub list_call : Resource → Option ℕ → Call
+list_call resource None = calls.ReadRefused invalid_page
+list_call resource (Some page) = calls.Read (queries.List resource page)
 
 -- at a target, with the text in the place of a ticket: 405 where the target hasn't that method; the body of a read isn't
 -- looked at
 abbrev pub call_by : Message → Option (List ℕ) → Target → Option Endpoint → Call
 call_by m ticket target None = refused_by (is_write (verb_of m.method)) (method_not_allowed m.method (methods_of target))
-call_by m ticket target (Some (endpoints.Page resource)) = listed resource (page_of m.target)
+call_by m ticket target (Some (endpoints.Page resource)) = list_call resource (page_of m.target)
 call_by m ticket target (Some (endpoints.Read query)) = calls.Read query
-call_by m ticket target (Some (endpoints.Write form)) = written (read_command form m.body)
+call_by m ticket target (Some (endpoints.Write form)) = write_call (read_command form m.body)
 call_by m ticket target (Some endpoints.ReadMissing) = calls.ReadRefused not_found
 call_by m ticket target (Some (endpoints.MoveMissing name)) = missing (read_move name m.body)
-call_by m ticket target (Some (endpoints.Redeem door)) = redeemed door ticket (read_scan m.body)
+call_by m ticket target (Some (endpoints.Redeem door)) = redeem_call door ticket (read_scan m.body)
 
 -- at a target, by what the message's method asks for there
 abbrev pub call_at : Message → Option (List ℕ) → Target → Call
@@ -80,11 +80,11 @@ call_of m ticket None = refused_by (is_write (verb_of m.method)) not_found
 call_of m ticket (Some target) = call_at m ticket target
 
 -- 401 where the message has no token, or one that isn't known
-abbrev pub authorized : Option (List ℕ) → Option ℕ → Call → Call
-authorized None known call = calls.Unauthorized no_credentials
-authorized (Some token) None call = calls.Unauthorized invalid_token
-authorized (Some token) (Some known) call = call
+abbrev pub call_authorized : Option (List ℕ) → Option ℕ → Call → Call
+call_authorized None known call = calls.Unauthorized no_credentials
+call_authorized (Some token) None call = calls.Unauthorized invalid_token
+call_authorized (Some token) (Some known) call = call
 
 -- what a message asks for in the shop of those slugs, where known is the row of its token
 unfoldable pub call : List ℕ → List ℕ → Message → Option ℕ → Call
-call organizer event m known = authorized (token_of m) known (call_of m (ticket_named organizer event m.target) (target_of organizer event m.target))
+call organizer event m known = call_authorized (token_of m) known (call_of m (ticket_named organizer event m.target) (target_of organizer event m.target))

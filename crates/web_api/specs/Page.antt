@@ -9,13 +9,13 @@ use Rattle.model_commands.specs.declared.requests.Resource.TheVariants as resour
 use Rattle.web_api.specs.Path.{query_of}
 
 -- the text that a name or a value of a query stands for; what is no UTF-8 in it is replaced
-abbrev pub decoded : List ℕ → List ℕ
-decoded bytes = utf8_lossy (decode bytes)
+abbrev pub text_decoded : List ℕ → List ℕ
+text_decoded bytes = utf8_lossy (decode bytes)
 
 -- the first value of that name
 abbrev pub value_named : List ℕ → List (List ℕ × List ℕ) → Option (List ℕ)
 value_named name [] = None
-value_named name (pair ∷ pairs) = if same_text (decoded pair.0) name then Some (decoded pair.1) else value_named name pairs
+value_named name (pair ∷ pairs) = if same_text (text_decoded pair.0) name then Some (text_decoded pair.1) else value_named name pairs
 
 -- 1 to 18 digits; where no page is named it is the first
 abbrev pub page_from : Option (List ℕ) → Option ℕ

@@ -60,10 +60,10 @@ unfoldable pub all_routes : Rows
 all_routes = door_routes (waiting_routes (order_routes (sale_routes (catalogue_routes []))))
 
 -- what stands beside a route that was found
-abbrev pub found : Option (RouteOf Route) → Option Route
-found None = None
-found (Some route) = Some route.value
+abbrev pub route_found : Option (RouteOf Route) → Option Route
+route_found None = None
+route_found (Some route) = Some route.value
 
 -- the route of a path behind the slugs; a path that is no UTF-8 has none
 unfoldable pub route_of : List ℕ → Option Route
-route_of path = if is_utf8 path then found (first all_routes path) else None
+route_of path = if is_utf8 path then route_found (first all_routes path) else None

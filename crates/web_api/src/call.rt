@@ -2,7 +2,7 @@
 
 ghost use Rattle.std.specs.Prelude.{◌≡◌, IfOk, option_map};
 ghost use Rattle.web_bodies.specs.Body.{read_command, read_move, read_scan};
-ghost use Rattle.web_api.specs.Call.{fault_response, refused_by, refused_body, written, missing, redeemed, listed, call_at, call_of};
+ghost use Rattle.web_api.specs.Call.{fault_response, refused_by, refused_body, write_call, missing, redeem_call, list_call, call_at, call_of};
 ghost use Rattle.web_api.specs.Fit.{IsFitCall};
 ghost use Rattle.web_api.specs.Page.{page_of};
 ghost use Rattle.web_api.specs.Path.{bytes_of};
@@ -79,8 +79,8 @@ fn refused_body(alloc: Global, fault: BodyFault) -> Result<Call, AllocError>
 }
 
 /// The command of a body of that form, or the refusal of the body.
-fn written(alloc: Global, form: Form, body: &[u8]) -> Result<Call, AllocError>
-    ensures { IfOk result (λ call. call ≡ written (read_command form body.now)) }
+fn write_call(alloc: Global, form: Form, body: &[u8]) -> Result<Call, AllocError>
+    ensures { IfOk result (λ call. call ≡ write_call (read_command form body.now)) }
 {
     match read_command(alloc, form, body) {
         Ok(command) => Ok(Call::Write(command)),
@@ -101,14 +101,14 @@ fn missing(alloc: Global, name: MoveName, body: &[u8]) -> Result<Call, AllocErro
 }
 
 /// The scan of the ticket that the path names, at the check-in list with this id, or the refusal of its body.
-fn redeemed(
+fn redeem_call(
     alloc: Global,
     list: u64,
     ticket: Option<&[u8]>,
     body: &[u8],
 ) -> Result<Call, AllocError>
     ensures { IfOk result
-        (λ call. call ≡ redeemed list (option_map bytes_of ticket.entry) (read_scan body.now)) }
+        (λ call. call ≡ redeem_call list (option_map bytes_of ticket.entry) (read_scan body.now)) }
 {
     match read_scan(alloc, body) {
         Ok(scan) => {
@@ -121,8 +121,8 @@ fn redeemed(
 }
 
 /// The page of a list that a target asks for, or the refusal of the page.
-fn listed(alloc: Global, resource: Resource, target: &[u8]) -> Result<Call, AllocError>
-    ensures { IfOk result (λ call. call ≡ listed resource (page_of target.now)) }
+fn list_call(alloc: Global, resource: Resource, target: &[u8]) -> Result<Call, AllocError>
+    ensures { IfOk result (λ call. call ≡ list_call resource (page_of target.now)) }
 {
     match page_of(alloc, target)? {
         None => Ok(Call::ReadRefused(invalid_page(alloc)?)),
@@ -147,12 +147,12 @@ fn call_at(
             let response = method_not_allowed(alloc, method, methods_of(target))?;
             Ok(refused(verb, response))
         }
-        Some(Endpoint::Page(resource)) => listed(alloc, resource, frame.target()),
+        Some(Endpoint::Page(resource)) => list_call(alloc, resource, frame.target()),
         Some(Endpoint::Read(query)) => Ok(Call::Read(query)),
-        Some(Endpoint::Write(form)) => written(alloc, form, frame.body()),
+        Some(Endpoint::Write(form)) => write_call(alloc, form, frame.body()),
         Some(Endpoint::ReadMissing) => Ok(Call::ReadRefused(not_found(alloc)?)),
         Some(Endpoint::MoveMissing(name)) => missing(alloc, name, frame.body()),
-        Some(Endpoint::Redeem(list)) => redeemed(alloc, list, ticket, frame.body()),
+        Some(Endpoint::Redeem(list)) => redeem_call(alloc, list, ticket, frame.body()),
     }
 }
 

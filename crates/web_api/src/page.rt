@@ -4,7 +4,7 @@ ghost use Rattle.std.specs.Prelude.{◌≡◌, IfOk, codes};
 ghost use Rattle.form_urlencoded.specs.Form.{raw_pairs};
 ghost use Rattle.base_values.specs.Texts.{same_text};
 ghost use Rattle.base_values.specs.Digits.{number_of};
-ghost use Rattle.web_api.specs.Page.{decoded, page_in, page_of};
+ghost use Rattle.web_api.specs.Page.{text_decoded, page_in, page_of};
 
 use crate::path::query_of;
 use base_values::number_of;
@@ -13,7 +13,7 @@ use std::alloc::{AllocError, Global};
 
 /// Whether a name, as the query gives it, is `page`.
 fn is_page(alloc: Global, name: &[u8]) -> Result<bool, AllocError>
-    ensures { IfOk result (λ b. b ≡ same_text (decoded name.now) (codes "page")) }
+    ensures { IfOk result (λ b. b ≡ same_text (text_decoded name.now) (codes "page")) }
 {
     let name = decode(alloc, name)?;
     Ok(name.as_str() == "page")
@@ -21,7 +21,7 @@ fn is_page(alloc: Global, name: &[u8]) -> Result<bool, AllocError>
 
 /// The number that a value, as the query gives it, writes in 1 to 18 digits.
 fn number_in(alloc: Global, value: &[u8]) -> Result<Option<u64>, AllocError>
-    ensures { IfOk result (λ n. n ≡ number_of (decoded value.now)) }
+    ensures { IfOk result (λ n. n ≡ number_of (text_decoded value.now)) }
 {
     let value = decode(alloc, value)?;
     Ok(number_of(value.as_str().as_bytes()))

@@ -1,7 +1,7 @@
 //! The routes of the shop.
 
 ghost use Rattle.std.specs.Prelude.{◌≡◌, IfOk, OnOk};
-ghost use Rattle.web_api.specs.Routes.{with_route, catalogue_routes, sale_routes, order_routes, waiting_routes, door_routes, all_routes, route_of, found};
+ghost use Rattle.web_api.specs.Routes.{with_route, catalogue_routes, sale_routes, order_routes, waiting_routes, door_routes, all_routes, route_of, route_found};
 ghost use Rattle.matchit.specs.Seek.{first};
 
 use matchit::{InsertError, Router};
@@ -152,8 +152,8 @@ pub fn routes(alloc: Global) -> Result<Router<Route>, InsertError>
 }
 
 /// The route that a text matches.
-fn found(router: &Router<Route>, path: &str) -> Option<Route>
-    ensures { result ≡ found (first router.now path.now) }
+fn route_found(router: &Router<Route>, path: &str) -> Option<Route>
+    ensures { result ≡ route_found (first router.now path.now) }
 {
     match router.at(path) {
         Ok(found) => Some(*found.value),
@@ -167,7 +167,7 @@ pub fn route_of(router: &Router<Route>, path: &[u8]) -> Option<Route>
     ensures { result ≡ route_of path.now }
 {
     match str::from_utf8(path) {
-        Ok(text) => found(router, text),
+        Ok(text) => route_found(router, text),
         Err(_) => None,
     }
 }

@@ -15,8 +15,8 @@ use Rattle.model_answers.specs.declared.kept.Kept.{Kept}
 use Rattle.office_deliveries.specs.declared.arrival.Arrival.{Arrival}
 use Rattle.office_deliveries.specs.declared.arrival.Request.{Request}
 use Rattle.office_deliveries.specs.declared.arrival.Request.TheVariants.{Write, WriteRefused, Read, ReadRefused}
-use Rattle.office_deliveries.specs.Deliveries.{done, held_for, is_write, repeats}
-use Rattle.office_deliveries.specs.Shops.{Views, acted_by, moment_of, own, served, shown}
+use Rattle.office_deliveries.specs.Deliveries.{request_done, held_for, is_write, repeats}
+use Rattle.office_deliveries.specs.Shops.{Views, acted_by, moment_of, own, arrival_served, read_served}
 use Rattle.web_connection.specs.declared.failure.Failure.{Failure}
 use Rattle.web_connection.specs.Run.{Devices, RunLeads, with_desk}
 use Rattle.web_api.specs.Call.{call}
@@ -88,8 +88,8 @@ coming-given tick token key (calls.Write command) h = tt
 coming-given tick token key (calls.WriteRefused response) h = h
 
 module _ (words : Reply → Response) (each : (reply : Reply) → is_given (words reply).status ≡ true) where
-  done-given : (request : Request) (at : ℕ) (draw : Draw) (state : State) → RequestGiven request → is_given (done words request at draw state).1.status ≡ true
-  unfolding done
+  done-given : (request : Request) (at : ℕ) (draw : Draw) (state : State) → RequestGiven request → is_given (request_done words request at draw state).1.status ≡ true
+  unfolding request_done
   done-given (Write command) at draw state h = each _
   done-given (WriteRefused response) at draw state h = h
   done-given (Read query) at draw state h = each _
@@ -103,15 +103,15 @@ module _ (words : Reply → Response) (each : (reply : Reply) → is_given (word
   acted-given a v None is h kept =
       let at = moment_of v a in
       let made = done-given a.request at a.draw v.state h in
-      let mine = own a at (done words a.request at a.draw v.state).1 in
+      let mine = own a at (request_done words a.request at a.draw v.state).1 in
       (made, given-filtered (λ k. lasts at k.at) (v.kept ++ mine) (given-behind v.kept mine kept (given-own _ made)))
 
   by-write : (a : Arrival) (v : ShopView) (write : Bool) → RequestGiven a.request → AreGiven v.kept
-      → IsGivenBy (cond write (acted_by words (held_for a (moment_of v a) v.kept) a v) (v, shown words a v))
+      → IsGivenBy (cond write (acted_by words (held_for a (moment_of v a) v.kept) a v) (v, read_served words a v))
   by-write a v true h kept = acted-given a v (held_for a (moment_of v a) v.kept) refl h kept
   by-write a v false h kept = (done-given a.request (moment_of v a) a.draw v.state h, kept)
 
-  served-given : (a : Arrival) (v : ShopView) → RequestGiven a.request → AreGiven v.kept → IsGivenBy (served words a v)
+  served-given : (a : Arrival) (v : ShopView) → RequestGiven a.request → AreGiven v.kept → IsGivenBy (arrival_served words a v)
   served-given a v = by-write a v (is_write a.request)
 
   message-given : (coming : Result Arrival Response) (v : ShopView) (answer : Answer) (w : ShopView) → ComingGiven coming → AreGiven v.kept → IsServed words coming v answer (λ x. w ≡ x)

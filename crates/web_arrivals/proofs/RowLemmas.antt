@@ -20,9 +20,9 @@ use Rattle.model_answers.specs.ShopView.{ShopView}
 use Rattle.office_deliveries.specs.declared.arrival.Arrival.{Arrival}
 use Rattle.office_deliveries.specs.declared.arrival.Request.{Request}
 use Rattle.office_deliveries.specs.declared.arrival.Request.TheVariants.{Write, WriteRefused, Read, ReadRefused}
-use Rattle.office_deliveries.specs.Deliveries.{is_write, done, held_for}
+use Rattle.office_deliveries.specs.Deliveries.{is_write, request_done, held_for}
 use Rattle.office_deliveries.specs.Fit.{IsFitRequest, IsFitArrival}
-use Rattle.office_deliveries.specs.Shops.{Views, moment_of, acted_by, shown, moment_at}
+use Rattle.office_deliveries.specs.Shops.{Views, moment_of, acted_by, read_served, moment_at}
 use Rattle.office_deliveries.proofs.Runs.{stores}
 use Rattle.web_connection.specs.declared.failure.Failure.{Failure}
 use Rattle.web_connection.specs.Run.{Devices, with_desk, RunLeads}
@@ -35,8 +35,8 @@ use Rattle.web_arrivals.proofs.StreamLemmas.{run-seen, viewed}
 -- ---- what an executed request makes of the rows
 
 makes-step : (words : Reply → Response) (request : Request) (clock : ℕ) (draw : Draw) (state : State) → IsFitRequest request → IsDraw draw → IsSound state
-    → MakesItsStep request clock draw state (done words request (moment_at clock state) draw state).0 × IsSound (done words request (moment_at clock state) draw state).0
-unfolding done
+    → MakesItsStep request clock draw state (request_done words request (moment_at clock state) draw state).0 × IsSound (request_done words request (moment_at clock state) draw state).0
+unfolding request_done
 makes-step words (Write command) clock draw state fit sixteen sound =
     let arrivals : List Coming = record { clock = clock; draw = draw; command = command } ∷ [] in
     let come : AllByRecursion IsFitComing arrivals = (record { command = fit; draw = sixteen }, tt) in
@@ -48,7 +48,7 @@ makes-step words (Read query) clock draw state fit sixteen sound = (refl, sound)
 makes-step words (ReadRefused response) clock draw state fit sixteen sound = (refl, sound)
 
 kept-by : (words : Reply → Response) (a : Arrival) (v : ShopView) (write : Bool) (held : Option Kept) → IsFitArrival a → IsSound v.state
-    → let after : ShopView = (cond write (acted_by words held a v) (v, shown words a v)).0 in KeepsRows (write && not (is_some held)) a v after × IsSound after.state
+    → let after : ShopView = (cond write (acted_by words held a v) (v, read_served words a v)).0 in KeepsRows (write && not (is_some held)) a v after × IsSound after.state
 kept-by words a v true (Some k) fit sound = (refl, sound)
 kept-by words a v true None fit sound = makes-step words a.request a.clock a.draw v.state fit.request fit.draw sound
 kept-by words a v false held fit sound = (refl, sound)
@@ -93,12 +93,12 @@ module _ {T : Type 0} (tables : Meaning T) (house : House) where
 -- ---- time
 
 later-done : (words : Reply → Response) (request : Request) (clock : ℕ) (draw : Draw) (state : State) (write : Bool) → is_write request ≡ write
-    → state.moment ≤ (cond write (done words request (moment_at clock state) draw state).0 state).moment
+    → state.moment ≤ (cond write (request_done words request (moment_at clock state) draw state).0 state).moment
 later-done words request clock draw state true write = subst (λ (n : ℕ). state.moment ≤ n) (sym (stores words request clock draw state write)) (not_before clock state)
 later-done words request clock draw state false write = omega arith
 
 later-by : (words : Reply → Response) (a : Arrival) (v : ShopView) (write : Bool) (held : Option Kept) → is_write a.request ≡ write
-    → v.state.moment ≤ (cond write (acted_by words held a v) (v, shown words a v)).0.state.moment
+    → v.state.moment ≤ (cond write (acted_by words held a v) (v, read_served words a v)).0.state.moment
 later-by words a v true (Some k) write = omega arith
 later-by words a v true None write = later-done words a.request a.clock a.draw v.state true write
 later-by words a v false held write = omega arith

@@ -12,7 +12,7 @@ use Rattle.office_deliveries.specs.declared.arrival.Arrival.{Arrival}
 use Rattle.office_deliveries.specs.Deliveries.{Opening, Delivery}
 use Rattle.office_deliveries.specs.Histories.{Event, Answered, Unanswered, Running, Happens, IsRunning, after_answer, after_none}
 use Rattle.office_deliveries.proofs.Crashes.{happens_on}
-use Rattle.office_deliveries.specs.Shops.{Views, StandsFor, served}
+use Rattle.office_deliveries.specs.Shops.{Views, StandsFor, arrival_served}
 use Rattle.web_connection.specs.declared.failure.Failure.{Failure}
 use Rattle.web_connection.specs.Run.{AtTick, Item, Runs, Devices, with_desk, RunLeads}
 use Rattle.web_connection.proofs.FollowLemmas.{Follows, follows_at, runs_follow, run_follows}
@@ -155,7 +155,7 @@ module _ {T : Type 0} (tables : Meaning T) (house : House) where
 
 -- what a message that isn't answered 503 makes of a shop, and what it is told
 abbrev pub message_served : (Reply → Response) → Result Arrival Response → ShopView → ShopView × Response
-message_served words (Ok a) v = served words a v
+message_served words (Ok a) v = arrival_served words a v
 message_served words (Err refusal) v = (v, refusal)
 
 abbrev pub Tells : House → ShopView → Tick → Message → Answer → ShopView → Type 0

@@ -40,8 +40,8 @@ abbrev pub words_of : House → Reply → Response
 words_of house = words house.organizer house.event
 
 -- what a reply is told at a desk
-abbrev pub worded : {T : Type 0} → DeskView T → Reply → Response
-worded desk = words desk.organizer desk.event
+abbrev pub reply_worded : {T : Type 0} → DeskView T → Reply → Response
+reply_worded desk = words desk.organizer desk.event
 
 -- a desk of this house, which its tables know too
 pub record IsOf {T : Type 0} (tables : Meaning T) (house : House) (desk : DeskView T) : Type 0 where

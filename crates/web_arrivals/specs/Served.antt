@@ -7,10 +7,10 @@ use Rattle.base_devices.specs.declared.device.Tick.{Tick}
 use Rattle.web_http.specs.Messages.{Message}
 use Rattle.model_commands.specs.declared.replies.Reply.{Reply}
 use Rattle.office_deliveries.specs.declared.arrival.Arrival.{Arrival}
-use Rattle.office_deliveries.specs.Deliveries.{Opening, Delivery, told}
+use Rattle.office_deliveries.specs.Deliveries.{Opening, Delivery, answer_told}
 use Rattle.office_deliveries.specs.Fit.{IsFitArrival}
 use Rattle.office_deliveries.specs.Histories.{Running, after_act}
-use Rattle.office_deliveries.specs.Shops.{IsAnswered, delivered}
+use Rattle.office_deliveries.specs.Shops.{IsAnswered, arrival_delivered}
 use Rattle.model_answers.specs.ShopView.{ShopView}
 use Rattle.web_arrivals.specs.Coming.{arrival}
 use Rattle.web_arrivals.specs.DeskView.{DeskView, House, Meaning, house_of, words_of}
@@ -36,7 +36,7 @@ module _ (words : Reply → Response) where
   -- The same over the list of arrivals till then: an arrival stands behind it, marked where it is answered 503, and is told what
   -- is told of the list; without one the list stays.
   abbrev pub IsListed : Result Arrival Response → Opening → List Delivery → Answer → (List Delivery → Type 0) → Type 0
-  IsListed (Ok a) p ds answer Leads = Leads (ds ++ delivered a answer ∷ []) × (told words p ds (delivered a answer) ≡ answer)
+  IsListed (Ok a) p ds answer Leads = Leads (ds ++ arrival_delivered a answer ∷ []) × (answer_told words p ds (arrival_delivered a answer) ≡ answer)
   IsListed (Err refusal) p ds answer Leads = Leads ds × IsRefused refusal answer
 
   -- a running shop after a message, with the writes that a crash may still carry out

@@ -8,7 +8,7 @@ use Rattle.base_devices.specs.declared.device.Tick.{Tick}
 use Rattle.base_values.specs.declared.draw.Draw.{Draw}
 use Rattle.web_http.specs.Messages.{Message}
 use Rattle.model_rows.specs.Lists.{State}
-use Rattle.office_runs.specs.Runs.{stepped}
+use Rattle.office_runs.specs.Runs.{office_stepped}
 use Rattle.office_deliveries.specs.declared.arrival.Arrival.{Arrival}
 use Rattle.office_deliveries.specs.declared.arrival.Request.{Request}
 use Rattle.office_deliveries.specs.declared.arrival.Request.TheVariants.{Write, WriteRefused, Read, ReadRefused}
@@ -30,7 +30,7 @@ Decides tables old tick m answer new = Serves tables old tick m answer new × ((
 -- an executed command makes its step, which takes too much of nothing; any other request changes the moment at most
 abbrev pub MakesItsStep : Request → ℕ → Draw → State → State → Type 0
 MakesItsStep (Write command) clock draw before after =
-    let made = stepped (record { clock = clock; draw = draw; command = command }) before in
+    let made = office_stepped (record { clock = clock; draw = draw; command = command }) before in
     (after ≡ made.after) × TakesNothingTooMuch made
 MakesItsStep (WriteRefused response) clock draw before after = after ≡ record before { moment = after.moment }
 MakesItsStep (Read query) clock draw before after = after ≡ before

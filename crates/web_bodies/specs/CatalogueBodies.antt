@@ -8,8 +8,8 @@ use Rattle.model_catalogue.specs.declared.requests.NewQuota.{NewQuota}
 use Rattle.model_catalogue.specs.declared.requests.QuotaPatch.{QuotaPatch}
 use Rattle.model_faults.specs.declared.fields.Field.TheVariants as fields
 use Rattle.web_fields.specs.declared.error.BodyFault.{BodyFault}
-use Rattle.web_fields.specs.Reading.{◌>>=◌, renamed}
-use Rattle.web_fields.specs.Modes.{required, nullable, present}
+use Rattle.web_fields.specs.Reading.{◌>>=◌, fault_renamed}
+use Rattle.web_fields.specs.Modes.{required_value, nullable, present}
 use Rattle.web_fields.specs.Kinds.{money, name, whole}
 use Rattle.web_fields.specs.Lists.{list, all_of, entry_object}
 use Rattle.web_fields.specs.Lacking.{each, or_else, truth_or, optional_money, ids_or_none}
@@ -18,7 +18,7 @@ use Rattle.web_fields.specs.Patched.{patched_name, patched_money, patched_truth,
 -- a new variation; without a price of its own it costs what its item does
 unfoldable pub variation_of : Data → Result NewVariation BodyFault
 variation_of d = do
-  v ← required fields.Value d
+  v ← required_value fields.Value d
   given ← name fields.Value v
   price ← optional_money fields.DefaultPrice d
   active ← truth_or fields.Active true d
@@ -26,7 +26,7 @@ variation_of d = do
 
 -- an entry of an item's variations; all its faults are faults of the list
 abbrev pub variation_entry : Data → Result NewVariation BodyFault
-variation_entry d = entry_object fields.Variations d >>= λ v. renamed fields.Variations (variation_of v)
+variation_entry d = entry_object fields.Variations d >>= λ v. fault_renamed fields.Variations (variation_of v)
 
 -- the variations of a list, in its order, or the fault of the first that has one
 abbrev pub variation_list : Data → Result (List NewVariation) BodyFault
@@ -39,9 +39,9 @@ variations_of d = present fields.Variations d >>= or_else variation_list []
 -- a new item
 unfoldable pub item_of : Data → Result NewItem BodyFault
 item_of d = do
-  n ← required fields.Name d
+  n ← required_value fields.Name d
   given ← name fields.Name n
-  p ← required fields.DefaultPrice d
+  p ← required_value fields.DefaultPrice d
   price ← money fields.DefaultPrice p
   active ← truth_or fields.Active true d
   variations ← variations_of d
@@ -62,7 +62,7 @@ size_of d = nullable fields.Size d >>= each (whole fields.Size 0 1000000)
 -- a new quota; where nothing says that it releases places, it keeps them
 unfoldable pub quota_of : Data → Result NewQuota BodyFault
 quota_of d = do
-  n ← required fields.Name d
+  n ← required_value fields.Name d
   given ← name fields.Name n
   size ← size_of d
   items ← ids_or_none fields.Items d

@@ -11,14 +11,14 @@ use Rattle.model_faults.specs.declared.fields.Field.TheVariants as fields
 use Rattle.model_faults.specs.declared.fields.Problem.TheVariants as problems
 use Rattle.web_fields.specs.declared.error.BodyFault.{BodyFault}
 use Rattle.web_fields.specs.Reading.{◌>>=◌, fault}
-use Rattle.web_fields.specs.Modes.{present, required}
+use Rattle.web_fields.specs.Modes.{present, required_value}
 use Rattle.web_fields.specs.Kinds.{name}
 use Rattle.web_fields.specs.Lacking.{or_else, truth_or, ids_or_none, optional_text, optional_moment}
 
 -- a new check-in list: for no item and for paid orders alone, where nothing else is said
 unfoldable pub checkin_list_of : Data → Result NewCheckinList BodyFault
 checkin_list_of d = do
-  n ← required fields.Name d
+  n ← required_value fields.Name d
   given ← name fields.Name n
   all ← truth_or fields.AllProducts false d
   items ← ids_or_none fields.LimitProducts d

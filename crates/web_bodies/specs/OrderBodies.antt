@@ -15,8 +15,8 @@ use Rattle.model_faults.specs.declared.fields.Field.TheVariants as fields
 use Rattle.model_faults.specs.declared.fields.Problem.TheVariants as problems
 use Rattle.web_fields.specs.declared.error.BodyFault.{BodyFault}
 use Rattle.web_fields.specs.declared.error.BodyFault.TheVariants as faults
-use Rattle.web_fields.specs.Reading.{◌>>=◌, fault, renamed}
-use Rattle.web_fields.specs.Modes.{present, required}
+use Rattle.web_fields.specs.Reading.{◌>>=◌, fault, fault_renamed}
+use Rattle.web_fields.specs.Modes.{present, required_value}
 use Rattle.web_fields.specs.Kinds.{end, id}
 use Rattle.web_fields.specs.Lists.{list, all_of, at_most, entry_object}
 use Rattle.web_fields.specs.Lacking.{or_else, optional_id, optional_text, optional_loose_text, optional_money, optional_moment, texts_or_none}
@@ -30,7 +30,7 @@ enough = 501
 -- what is asked for one position; its voucher is a code, and an empty one is a code that no voucher has
 unfoldable pub asked_of : Data → Result Asked BodyFault
 asked_of d = do
-  i ← required fields.Item d
+  i ← required_value fields.Item d
   item ← id fields.Item i
   variation ← optional_id fields.Variation d
   price ← optional_money fields.Price d
@@ -39,12 +39,12 @@ asked_of d = do
 
 -- an entry of an order's positions; all its faults are faults of the list
 abbrev pub position_entry : Data → Result Asked BodyFault
-position_entry d = entry_object fields.Positions d >>= λ v. renamed fields.Positions (asked_of v)
+position_entry d = entry_object fields.Positions d >>= λ v. fault_renamed fields.Positions (asked_of v)
 
 -- the first positions of a new order; the list has to be there, and may be empty, and a fault of any entry is the list's
 abbrev pub positions_of : Data → Result (List Asked) BodyFault
 positions_of d = do
-  v ← required fields.Positions d
+  v ← required_value fields.Positions d
   ds ← list fields.Positions v
   at_most enough (all_of position_entry ds)
 
@@ -79,7 +79,7 @@ order_of d = do
 
 -- the end to which an order is extended, which has to be there: an instant, or a day, which stands for its last second
 abbrev pub end_of : Data → Result ℕ BodyFault
-end_of d = required fields.Expires d >>= end fields.Expires
+end_of d = required_value fields.Expires d >>= end fields.Expires
 
 -- the cart position that an entry of a bulk call asks for, or what is wrong with it
 abbrev pub entry_from : Result NewCart BodyFault → Entry

@@ -6,7 +6,7 @@ use Rattle.model_commands.specs.declared.waiting.WaitingPatch.{WaitingPatch}
 use Rattle.model_faults.specs.declared.fields.Field.TheVariants as fields
 use Rattle.web_fields.specs.declared.error.BodyFault.{BodyFault}
 use Rattle.web_fields.specs.Reading.{◌>>=◌}
-use Rattle.web_fields.specs.Modes.{required}
+use Rattle.web_fields.specs.Modes.{required_value}
 use Rattle.web_fields.specs.Kinds.{id, text}
 use Rattle.web_fields.specs.Lacking.{optional_id, signed_or}
 use Rattle.web_fields.specs.Patched.{patched_signed}
@@ -26,9 +26,9 @@ priority d = signed_or fields.Priority (pos 0) lowest highest d
 -- a new entry
 unfoldable pub waiting_of : Data → Result NewWaiting BodyFault
 waiting_of d = do
-  e ← required fields.Email d
+  e ← required_value fields.Email d
   email ← text fields.Email e
-  i ← required fields.Item d
+  i ← required_value fields.Item d
   item ← id fields.Item i
   variation ← optional_id fields.Variation d
   first ← priority d

@@ -11,7 +11,7 @@ use serde_json::Value;
 use std::alloc::Global;
 use web_fields::{
     ReadError, id, optional_id, optional_loose_text, optional_moment, optional_money,
-    optional_text, required,
+    optional_text, required_value,
 };
 
 /// A new cart position.
@@ -19,7 +19,7 @@ use web_fields::{
 pub fn cart_of(alloc: Global, body: &Value) -> Result<NewCart, ReadError>
     ensures { Reads result (cart_of (view body.now)) }
 {
-    let item = id(Field::Item, required(Field::Item, body)?)?;
+    let item = id(Field::Item, required_value(Field::Item, body)?)?;
     let variation = optional_id(Field::Variation, body)?;
     let price = optional_money(Field::Price, body)?;
     let cart_id = optional_text(Field::CartId, body)?;

@@ -14,7 +14,7 @@ use std::alloc::Global;
 use web_fields::{
     BodyFault, ReadError, Reading, entries, entry_object, ids_or_none, list, money, name, nullable,
     optional_money, patched_money, patched_name, patched_truth, patched_whole_or_null, present,
-    required, truth_or, whole,
+    required_value, truth_or, whole,
 };
 
 /// A new variation.
@@ -22,7 +22,7 @@ use web_fields::{
 pub fn variation_of(alloc: Global, body: &Value) -> Result<NewVariation, ReadError>
     ensures { Reads result (variation_of (view body.now)) }
 {
-    let name = name(Field::Value, required(Field::Value, body)?)?;
+    let name = name(Field::Value, required_value(Field::Value, body)?)?;
     let default_price = optional_money(Field::DefaultPrice, body)?;
     let active = truth_or(Field::Active, true, body)?;
     Ok(NewVariation {
@@ -72,8 +72,11 @@ fn variations_of(alloc: Global, body: &Value) -> Result<List<NewVariation>, Read
 pub fn item_of(alloc: Global, body: &Value) -> Result<NewItem, ReadError>
     ensures { Reads result (item_of (view body.now)) }
 {
-    let name = name(Field::Name, required(Field::Name, body)?)?;
-    let default_price = money(Field::DefaultPrice, required(Field::DefaultPrice, body)?)?;
+    let name = name(Field::Name, required_value(Field::Name, body)?)?;
+    let default_price = money(
+        Field::DefaultPrice,
+        required_value(Field::DefaultPrice, body)?,
+    )?;
     let active = truth_or(Field::Active, true, body)?;
     let variations = variations_of(alloc, body)?;
     Ok(NewItem {
@@ -117,7 +120,7 @@ fn size_of(body: &Value) -> Result<Option<Size>, BodyFault>
 pub fn quota_of(alloc: Global, body: &Value) -> Result<NewQuota, ReadError>
     ensures { Reads result (quota_of (view body.now)) }
 {
-    let name = name(Field::Name, required(Field::Name, body)?)?;
+    let name = name(Field::Name, required_value(Field::Name, body)?)?;
     let size = size_of(body)?;
     let items = ids_or_none(alloc, Field::Items, body)?;
     let variations = ids_or_none(alloc, Field::Variations, body)?;

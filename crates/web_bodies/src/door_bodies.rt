@@ -14,8 +14,8 @@ use model_rows::CheckinKind;
 use serde_json::Value;
 use std::alloc::Global;
 use web_fields::{
-    BodyFault, ReadError, ids_or_none, name, optional_moment, optional_text, present, required,
-    truth_or,
+    BodyFault, ReadError, ids_or_none, name, optional_moment, optional_text, present,
+    required_value, truth_or,
 };
 
 /// A new check-in list.
@@ -23,7 +23,7 @@ use web_fields::{
 pub fn checkin_list_of(alloc: Global, body: &Value) -> Result<NewCheckinList, ReadError>
     ensures { Reads result (checkin_list_of (view body.now)) }
 {
-    let name = name(Field::Name, required(Field::Name, body)?)?;
+    let name = name(Field::Name, required_value(Field::Name, body)?)?;
     let all_products = truth_or(Field::AllProducts, false, body)?;
     let limit_products = ids_or_none(alloc, Field::LimitProducts, body)?;
     let include_pending = truth_or(Field::IncludePending, false, body)?;

@@ -17,7 +17,7 @@ use std::alloc::Global;
 use web_fields::{
     BodyFault, ReadError, Reading, end, entries, entry_object, first_entries, id, list,
     optional_id, optional_loose_text, optional_moment, optional_money, optional_text, present,
-    required, texts_or_none,
+    required_value, texts_or_none,
 };
 
 // How many positions of an order, and entries of a bulk call, are handed on: one more than there may be, which is
@@ -29,7 +29,7 @@ const ENOUGH: usize = 501;
 pub fn asked_of(alloc: Global, body: &Value) -> Result<Asked, ReadError>
     ensures { Reads result (asked_of (view body.now)) }
 {
-    let item = id(Field::Item, required(Field::Item, body)?)?;
+    let item = id(Field::Item, required_value(Field::Item, body)?)?;
     let variation = optional_id(Field::Variation, body)?;
     let price = optional_money(Field::Price, body)?;
     let voucher = optional_loose_text(Field::Voucher, body)?;
@@ -62,7 +62,7 @@ impl Reading<Asked> for ArePositions {
 fn positions_of(alloc: Global, body: &Value) -> Result<List<Asked>, ReadError>
     ensures { Reads result (positions_of (view body.now)) }
 {
-    let value = required(Field::Positions, body)?;
+    let value = required_value(Field::Positions, body)?;
     let asked = list(Field::Positions, value)?;
     let found = first_entries(alloc, &ArePositions, ENOUGH, asked)?;
     Ok(List::new(found))
@@ -127,7 +127,7 @@ pub fn order_of(alloc: Global, body: &Value) -> Result<NewOrder, ReadError>
 pub fn end_of(body: &Value) -> Result<Moment, BodyFault>
     ensures { result ≡ end_of (view body.now) }
 {
-    end(Field::Expires, required(Field::Expires, body)?)
+    end(Field::Expires, required_value(Field::Expires, body)?)
 }
 
 /// The cart position that an object asks for, or the first of its fields that is wrong.

@@ -11,7 +11,7 @@ use model_faults::Field;
 use serde_json::Value;
 use std::alloc::Global;
 use web_fields::{
-    BodyFault, ReadError, id, optional_id, patched_signed, required, signed_or, text,
+    BodyFault, ReadError, id, optional_id, patched_signed, required_value, signed_or, text,
 };
 
 /// The priority of a new entry.
@@ -28,8 +28,8 @@ fn priority(body: &Value) -> Result<Priority, BodyFault>
 pub fn waiting_of(alloc: Global, body: &Value) -> Result<NewWaiting, ReadError>
     ensures { Reads result (waiting_of (view body.now)) }
 {
-    let email = text(Field::Email, required(Field::Email, body)?)?;
-    let item = id(Field::Item, required(Field::Item, body)?)?;
+    let email = text(Field::Email, required_value(Field::Email, body)?)?;
+    let item = id(Field::Item, required_value(Field::Item, body)?)?;
     let variation = optional_id(Field::Variation, body)?;
     let priority = priority(body)?;
     Ok(NewWaiting {

@@ -12,7 +12,7 @@ use Rattle.clap.specs.Faults.{fault_of, is_simple_and_free}
 use Rattle.clap.specs.declared.Error.{Error}
 use Rattle.clap.specs.declared.error.ErrorKind.{ErrorKind}
 use Rattle.clap.proofs.OnLiterals.{clap_on_literals}
-use Rattle.web_cli.specs.Asked.{HasReason, IsReason, asked, asked_by}
+use Rattle.web_cli.specs.Asked.{HasReason, IsReason, asked_for, asked_by}
 use Rattle.web_cli.specs.Words.{IsWith, program}
 
 pub program_is_simple : is_simple program ≡ true
@@ -33,8 +33,8 @@ third_is_false false b c rest h = absurd (true≢false (sym h))
 -- what a parse found is what the words ask for
 pub asked_found : (app : App) (words : List Text) (R : Type 0) (found : Option (Text × List Row)) → app ≡ program
     → (is_simple_and_free app ≡ true → fault_of app words ≡ []) → (is_simple app ≡ true → R × (found ≡ subcommand_of app words))
-    → asked words ≡ asked_by [] found
-unfolding asked
+    → asked_for words ≡ asked_by [] found
+unfolding asked_for
 asked_found app words R found is none matches =
     let free : is_simple_and_free app ≡ true = ap is_simple_and_free is ∙ program_is_free in
     let simple : is_simple app ≡ true = ap is_simple is ∙ program_is_simple in
@@ -61,8 +61,8 @@ reason_by kinds found kind Memory (inr h) = inr (among kinds found kind h)
 
 -- where it failed, the words ask for nothing, for that reason
 pub reason_of : (app : App) (words : List Text) (e : Error) → app ≡ program → (is_simple_and_free app ≡ true → HasKind (fault_of app words) e)
-    → IsReason (asked words) (kind_of e)
-unfolding asked
+    → IsReason (asked_for words) (kind_of e)
+unfolding asked_for
 reason_of app words e is fails =
     let free : is_simple_and_free app ≡ true = ap is_simple_and_free is ∙ program_is_free in
     let has : HasKind (fault_of program words) e = subst (λ (a : App). HasKind (fault_of a words) e) is (fails free) in

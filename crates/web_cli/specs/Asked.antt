@@ -84,8 +84,8 @@ asked_by [] (Some (command, rows)) = asked_of command rows
 asked_by (kind ∷ kinds) found = none (kind ∷ kinds)
 
 -- what these words ask for, of which the first is the program
-unfoldable pub asked : List Text → Asked
-asked words = asked_by (fault_of program words) (subcommand_of program words)
+unfoldable pub asked_for : List Text → Asked
+asked_for words = asked_by (fault_of program words) (subcommand_of program words)
 
 -- what a line that was read asks for
 abbrev pub asked_by_line : Line → Asked
@@ -110,4 +110,4 @@ HasReason _ kind = ⊥
 
 -- an error says that there is no memory, or why the line asks for nothing
 abbrev pub IsReason : Asked → ErrorKind → Type 0
-IsReason asked kind = (kind ≡ OutOfMemory) ⊎ HasReason asked kind
+IsReason asked_for kind = (kind ≡ OutOfMemory) ⊎ HasReason asked_for kind

@@ -22,14 +22,14 @@ abbrev pub WritesLine : List ℕ → List ℕ → Page → Page → Result (Unit
 WritesLine first second old new written = Writes written (first ++ (second ++ 10 ∷ [])) old new
 
 -- how a command ends that was done, by whether what it says was written
-abbrev pub said : Result (Unit {0}) Refused → Result (Unit {0}) RunFault
-said (Ok u) = Ok u
-said (Err e) = Err (faults.Run failures.Output)
+abbrev pub end_said : Result (Unit {0}) Refused → Result (Unit {0}) RunFault
+end_said (Ok u) = Ok u
+end_said (Err e) = Err (faults.Run failures.Output)
 
 -- What came of a command is told: where it was done, by its line, of which a part was written where the writer failed; a fault by
 -- nothing that is written.
 abbrev pub Tells : {A : Type 0} → (A → List ℕ) → Result A RunFault → Page → Page → Result (Unit {0}) RunFault → Type 0
-Tells line (Ok a) old new result = (written : Result (Unit {0}) Refused) × Writes written (line a) old new × (result ≡ said written)
+Tells line (Ok a) old new result = (written : Result (Unit {0}) Refused) × Writes written (line a) old new × (result ≡ end_said written)
 Tells line (Err fault) old new result = (result ≡ Err fault) × (new ≡ old)
 
 -- the line of a shop that was made
@@ -74,7 +74,7 @@ listening_line listen = codes "listening on " ++ (listen ++ 10 ∷ [])
 -- was, and the command ends with that. Nothing is written only beside a fault.
 abbrev pub TellsListening : List ℕ → Page → Page → Result (Unit {0}) RunFault → Type 0
 TellsListening listen old new result =
-    ((written : Result (Unit {0}) Refused) × Writes written (listening_line listen) old new × OnErr written (result ≡ said written))
+    ((written : Result (Unit {0}) Refused) × Writes written (listening_line listen) old new × OnErr written (result ≡ end_said written))
     ⊎ ((new ≡ old) × ((fault : RunFault) × (result ≡ Err fault)))
 
 -- what serving the shop in a file may come to, by the file's name, the address, and how many connections are answered

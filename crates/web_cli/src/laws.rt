@@ -2,7 +2,7 @@
 
 ghost use Rattle.std.specs.Prelude.{◌≡◌, ◌++◌, ℕ, List, [], ◌∷◌, Some, None, codes, true, false};
 ghost use Rattle.clap.specs.declared.error.ErrorKind.TheVariants.{DisplayHelp, DisplayVersion, MissingSubcommand, UnknownArgument};
-ghost use Rattle.web_cli.specs.Asked.{adds, asked, exports, imports, lacks_argument, makes, migrates, none, plain_words, reports, runs, serves, works};
+ghost use Rattle.web_cli.specs.Asked.{adds, asked_for, exports, imports, lacks_argument, makes, migrates, none, plain_words, reports, runs, serves, works};
 ghost use Rattle.web_cli.specs.Examples.{asked_alone, asked_of_feed, asked_on_hall, asked_to_serve, asked_with_step, hall, morning};
 
 /// A line with both flags asks for a run with their texts, in either order, whatever the texts are.
@@ -27,7 +27,7 @@ pub fn files_and_tokens_are_known_by_their_places()
     ensures made { (program organizer event : List ℕ)
         → let o = codes "--organizer=" ++ organizer in let e = codes "--event=" ++ event
         in (asked_on_hall program "init" (o ∷ e ∷ []) ≡ makes hall organizer event)
-        × (asked (program ∷ codes "init" ∷ e ∷ o ∷ hall ∷ []) ≡ makes hall organizer event) }
+        × (asked_for (program ∷ codes "init" ∷ e ∷ o ∷ hall ∷ []) ≡ makes hall organizer event) }
     ensures added { (program : List ℕ)
         → asked_on_hall program "token-add" (codes "secret" ∷ []) ≡ adds hall (codes "secret") }
     ensures lacking { (program text : List ℕ)
@@ -44,7 +44,7 @@ pub fn a_served_file_is_known_by_its_place()
         ≡ serves hall listen (Some connections) false }
     ensures logged { (program listen : List ℕ)
         → asked_to_serve program listen (codes "--log" ∷ []) ≡ serves hall listen None true }
-    ensures signed { asked (plain_words
+    ensures signed { asked_for (plain_words
         (codes "boxoffice" ∷ codes "serve" ∷ hall ∷ codes "--listen" ∷ codes "[::1]:80"
         ∷ codes "--connections" ∷ codes "-1" ∷ []))
         ≡ serves hall (codes "[::1]:80") (Some []) false }
@@ -95,7 +95,7 @@ pub fn the_version_is_shown()
 
 /// A line without a command, or without one of the two flags, is wrong.
 pub fn lines_that_lack_something_are_wrong()
-    ensures { (program text : List ℕ) → (asked (program ∷ []) ≡ none (MissingSubcommand ∷ []))
+    ensures { (program text : List ℕ) → (asked_for (program ∷ []) ≡ none (MissingSubcommand ∷ []))
         × (asked_alone program "feed" ≡ lacks_argument)
         × (asked_of_feed program ((codes "--from=" ++ text) ∷ []) ≡ lacks_argument)
         × (asked_of_feed program ((codes "--step=" ++ text) ∷ []) ≡ lacks_argument) }

@@ -23,7 +23,7 @@ pub use ended::LineEnd;
 pub use fault::RunFault;
 pub use files::{HouseFiles, Place};
 pub use line::{answer_line, tell_fault, tell_run, tell_unknown, tell_words};
-pub use saying::{said, say};
+pub use saying::{end_said, say};
 pub use ticks::{FeedTicks, Pace};
 pub use values::{Report, ReportFault, feed_values, is_token, report_of, serve_values};
 pub use words::{

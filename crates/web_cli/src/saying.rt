@@ -1,7 +1,7 @@
 //! What a command on a shop's file writes.
 
 ghost use Rattle.std.specs.Prelude.{◌≡◌, []};
-ghost use Rattle.web_cli.specs.Saying.{OnPage, WritesLine, said};
+ghost use Rattle.web_cli.specs.Saying.{OnPage, WritesLine, end_said};
 
 use crate::fault::RunFault;
 use base_devices::{Drain, Refused};
@@ -29,8 +29,8 @@ pub fn say<W: Drain>(writer: &mut W, first: &[u8], second: &[u8]) -> Result<(), 
 }
 
 /// How a command ends that was done, by whether what it says was written.
-pub fn said(written: Result<(), Refused>) -> Result<(), RunFault>
-    ensures { result ≡ said written }
+pub fn end_said(written: Result<(), Refused>) -> Result<(), RunFault>
+    ensures { result ≡ end_said written }
 {
     match written {
         Ok(()) => Ok(()),

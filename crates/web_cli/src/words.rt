@@ -3,7 +3,7 @@
 ghost use Rattle.std.specs.Prelude.{◌≡◌, IfOk, IfErr, Some, codes, map, option_map, string_bytes, false};
 ghost use Rattle.clap.specs.Walk.{rule_of, texts};
 ghost use Rattle.clap.specs.Words.{app_of, first_of, found_of, kind_of, rows_of};
-ghost use Rattle.web_cli.specs.Asked.{IsReason, asked, asked_by_line, asked_of, asked_of_few, is_set, is_signed, plain_words, takes_number, text_of};
+ghost use Rattle.web_cli.specs.Asked.{IsReason, asked_for, asked_by_line, asked_of, asked_of_few, is_set, is_signed, plain_words, takes_number, text_of};
 ghost use Rattle.web_cli.specs.Words.{IsWith, choice, export_app, feed_app, file_app, flag, import_app, init_app, migrate_app, program, report_app, serve_app, switch, token_app, word, work_app};
 
 use clap::{Arg, ArgAction, ArgMatches, Command, Error};
@@ -504,8 +504,8 @@ fn line_of<'a>(command: &str, matches: &ArgMatches<'a>) -> Line<'a>
 
 /// Reads a command line, whose first word is the program.
 pub fn read_line<'a>(alloc: Global, words: &'a [&'a str]) -> Result<Line<'a>, Error>
-    ensures ok { IfOk result (λ line. asked (texts words.now) ≡ asked_by_line line) }
-    ensures err { IfErr result (λ error. IsReason (asked (texts words.now)) (kind_of error)) }
+    ensures ok { IfOk result (λ line. asked_for (texts words.now) ≡ asked_by_line line) }
+    ensures err { IfErr result (λ error. IsReason (asked_for (texts words.now)) (kind_of error)) }
 {
     let matches = commands(alloc)?.try_get_matches_from(words)?;
     match matches.subcommand() {

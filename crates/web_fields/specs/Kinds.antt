@@ -47,8 +47,8 @@ signed_of f low high None = Err (fault f problems.Invalid)
 signed_of f low high (Some n) = if int_le low n && int_le n high then Ok n else Err (fault f problems.OutOfRange)
 
 -- a number that may have a sign between two bounds, both of them allowed
-abbrev pub signed : Field → ℤ → ℤ → Data → Result ℤ BodyFault
-signed f low high v = signed_of f low high (option_and_then as_integer (as_number v))
+abbrev pub signed_number : Field → ℤ → ℤ → Data → Result ℤ BodyFault
+signed_number f low high v = signed_of f low high (option_and_then as_integer (as_number v))
 
 -- an id
 abbrev pub id : Field → Data → Result ℕ BodyFault

@@ -6,7 +6,7 @@ use Rattle.model_faults.specs.declared.fields.Field.{Field}
 use Rattle.web_fields.specs.declared.error.BodyFault.{BodyFault}
 use Rattle.web_fields.specs.Reading.{◌>>=◌}
 use Rattle.web_fields.specs.Modes.{optional, present}
-use Rattle.web_fields.specs.Kinds.{truth, whole, signed, id, loose_text, text, money, moment, price_mode}
+use Rattle.web_fields.specs.Kinds.{truth, whole, signed_number, id, loose_text, text, money, moment, price_mode}
 use Rattle.web_fields.specs.Lists.{ids, texts}
 
 -- the reading of a value that may be lacking
@@ -29,7 +29,7 @@ whole_or f x low high d = present f d >>= or_else (whole f low high) x
 
 -- a whole number between two bounds with a sign that may be absent, and then is x
 abbrev pub signed_or : Field → ℤ → ℤ → ℤ → Data → Result ℤ BodyFault
-signed_or f x low high d = present f d >>= or_else (signed f low high) x
+signed_or f x low high d = present f d >>= or_else (signed_number f low high) x
 
 -- a text that may be empty, and may be absent, and then is empty
 abbrev pub text_or_empty : Field → Data → Result (List ℕ) BodyFault

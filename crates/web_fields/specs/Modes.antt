@@ -18,8 +18,8 @@ required_from f None = Err (fault f problems.Required)
 required_from f (Some v) = not_null f v
 
 -- the value of a field that has to be there, and may not be null
-abbrev pub required : Field → Data → Result Data BodyFault
-required f d = required_from f (get (field_name f) d)
+abbrev pub required_value : Field → Data → Result Data BodyFault
+required_value f d = required_from f (get (field_name f) d)
 
 -- a value, or none where it is null
 abbrev pub unless_null : Data → Option Data

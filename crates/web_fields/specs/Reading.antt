@@ -28,9 +28,9 @@ fault_of f (faults.Field x) = fault f x.problem
 fault_of f e = e
 
 -- the reading, with its fault as one of that field
-abbrev pub renamed : {A : Type 0} → Field → Result A BodyFault → Result A BodyFault
-renamed f (Ok x) = Ok x
-renamed f (Err e) = Err (fault_of f e)
+abbrev pub fault_renamed : {A : Type 0} → Field → Result A BodyFault → Result A BodyFault
+fault_renamed f (Ok x) = Ok x
+fault_renamed f (Err e) = Err (fault_of f e)
 
 -- What a function returned, seen by show, is what the reading gives.
 abbrev pub Shows : {X Y : Type 0} → (X → Y) → Result X BodyFault → Result Y BodyFault → Type 0

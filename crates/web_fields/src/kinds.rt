@@ -5,7 +5,7 @@ ghost use Rattle.std.specs.Prelude.{◌≡◌, ◌≤◌, ◌≤ℤ◌, IfOk, op
 ghost use Rattle.base_values.specs.Money.{money_of};
 ghost use Rattle.web_fields.specs.Reading.{Shows, text_of, view_of};
 ghost use Rattle.base_values.specs.Texts.{same_text, IsText};
-ghost use Rattle.web_fields.specs.Kinds.{truth, whole, signed, id, fit, loose_text, text, first_member, first_name, name, money_read, units_from, count_in, money, moment_read, moment, end_in, end, mode_named, price_mode};
+ghost use Rattle.web_fields.specs.Kinds.{truth, whole, signed_number, id, fit, loose_text, text, first_member, first_name, name, money_read, units_from, count_in, money, moment_read, moment, end_in, end, mode_named, price_mode};
 ghost use Rattle.serde_json.specs.View.{view, members_view};
 
 use crate::error::{BodyFault, fault};
@@ -49,8 +49,8 @@ pub fn whole(field: Field, low: u64, high: u64, value: &Value) -> Result<u64, Bo
 }
 
 /// A whole number between two bounds, which may have a sign.
-pub fn signed(field: Field, low: i32, high: i32, value: &Value) -> Result<i32, BodyFault>
-    ensures value { result ≡ signed field low high (view value.now) }
+pub fn signed_number(field: Field, low: i32, high: i32, value: &Value) -> Result<i32, BodyFault>
+    ensures value { result ≡ signed_number field low high (view value.now) }
     ensures above { IfOk result (λ n. low ≤ℤ n) }
     ensures below { IfOk result (λ n. n ≤ℤ high) }
 {

@@ -7,7 +7,7 @@ ghost use Rattle.web_fields.specs.Lacking.{truth_or, whole_or, signed_or, text_o
 ghost use Rattle.serde_json.specs.View.{view};
 
 use crate::error::{BodyFault, ReadError};
-use crate::kinds::{id, loose_text, moment, money, price_mode, signed, text, truth, whole};
+use crate::kinds::{id, loose_text, moment, money, price_mode, signed_number, text, truth, whole};
 use crate::lists::{ids, texts};
 use crate::modes::{optional, present};
 use base_values::{Cents, List, Moment, PriceMode, Text};
@@ -57,7 +57,7 @@ pub fn signed_or(
 {
     match present(field, body)? {
         None => Ok(default),
-        Some(value) => signed(field, low, high, value),
+        Some(value) => signed_number(field, low, high, value),
     }
 }
 

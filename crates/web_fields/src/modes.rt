@@ -2,7 +2,7 @@
 
 ghost use Rattle.std.specs.Prelude.{◌≡◌, option_map};
 ghost use Rattle.web_fields.specs.Reading.{Shows, view_of};
-ghost use Rattle.web_fields.specs.Modes.{not_null, required, nullable, optional, present, unless_null, maybe};
+ghost use Rattle.web_fields.specs.Modes.{not_null, required_value, nullable, optional, present, unless_null, maybe};
 ghost use Rattle.serde_json.specs.View.{view};
 
 use crate::error::{BodyFault, fault};
@@ -21,8 +21,8 @@ pub(crate) fn not_null<'v>(field: Field, value: &'v Value) -> Result<&'v Value, 
 }
 
 /// The value of a field that has to be there, and may not be null.
-pub fn required<'v>(field: Field, body: &'v Value) -> Result<&'v Value, BodyFault>
-    ensures { Shows view_of result (required field (view body.now)) }
+pub fn required_value<'v>(field: Field, body: &'v Value) -> Result<&'v Value, BodyFault>
+    ensures { Shows view_of result (required_value field (view body.now)) }
 {
     match body.get(field.name()) {
         None => fault(field, Problem::Required),

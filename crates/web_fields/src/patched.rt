@@ -8,7 +8,9 @@ ghost use Rattle.web_fields.specs.Patched.{patched_truth, patched_whole, patched
 ghost use Rattle.serde_json.specs.View.{view};
 
 use crate::error::BodyFault;
-use crate::kinds::{id, loose_text, moment, money, name, price_mode, signed, text, truth, whole};
+use crate::kinds::{
+    id, loose_text, moment, money, name, price_mode, signed_number, text, truth, whole,
+};
 use crate::modes::{maybe, present};
 use base_values::{Cents, Moment, PriceMode};
 use model_faults::Field;
@@ -54,7 +56,7 @@ pub fn patched_signed(
 {
     match present(field, body)? {
         None => Ok(None),
-        Some(value) => Ok(Some(signed(field, low, high, value)?)),
+        Some(value) => Ok(Some(signed_number(field, low, high, value)?)),
     }
 }
 

@@ -13,7 +13,7 @@ use Rattle.web_responses.specs.Replies.{words}
 use Rattle.web_arrivals.specs.Deliveries.{Arrival, is_write, Running, MayLeave, IsRunning, IsAmong, also_undecided, after_none, Views}
 use Rattle.office_once.proofs.ShopLemmas.{stands-same}
 use Rattle.web_arrivals.specs.Coming.{arrival, arrival_with, number_of}
-use Rattle.web_arrivals.specs.DeskView.{DeskView, House, Meaning, house_of, words_of, worded}
+use Rattle.web_arrivals.specs.DeskView.{DeskView, House, Meaning, house_of, words_of, reply_worded}
 use Rattle.web_arrivals.specs.Served.{ServesOnce}
 
 -- ---- a write that isn't answered is undecided from then on
@@ -77,9 +77,9 @@ pub known : {T : Type 0} (tables : Meaning T) (old mid new : DeskView T) (t : Ti
     → ((v : ShopView) → Views tables.holds old.tables old.state v → Views tables.holds mid.tables mid.state v)
     → ((house : House) → tables.knows old.tables house → tables.knows mid.tables house)
     → ((left : ShopView) → tables.may_leave mid.tables left → tables.may_leave old.tables left)
-    → ServesOnce tables (worded mid) mid (arrival_with mid.organizer mid.event number t m) answer new
+    → ServesOnce tables (reply_worded mid) mid (arrival_with mid.organizer mid.event number t m) answer new
     → let house = house_of old told in ServesOnce tables (words_of house) old (arrival house t m) answer new
 known tables old mid new t m answer number told organizer event found same knows leaves once =
-    let here = looked-up tables (worded mid) old mid new (arrival_with mid.organizer mid.event number t m) answer same knows leaves once in
+    let here = looked-up tables (reply_worded mid) old mid new (arrival_with mid.organizer mid.event number t m) answer same knows leaves once in
     let named = subst₂ (λ (a b : List ℕ). ServesOnce tables (words a b) old (arrival_with a b number t m) answer new) organizer event here in
-    subst (λ (n : Option ℕ). ServesOnce tables (worded old) old (arrival_with old.organizer old.event n t m) answer new) found named
+    subst (λ (n : Option ℕ). ServesOnce tables (reply_worded old) old (arrival_with old.organizer old.event n t m) answer new) found named

@@ -2,11 +2,11 @@
 
 ghost use Rattle.std.specs.Prelude.{◌≡◌, ◌++◌, List, [], ◌∷◌, IfOk};
 ghost use Rattle.base_values.specs.declared.answer.Answer.TheVariants.{Unavailable};
-ghost use Rattle.web_arrivals.specs.Deliveries.{Delivery, IsAnswered, Opening, Running, after_act, delivered, told};
+ghost use Rattle.web_arrivals.specs.Deliveries.{Delivery, IsAnswered, Opening, Running, after_act, arrival_delivered, answer_told};
 ghost use Rattle.model_answers.specs.CallsLeave.{KnowsStill, MayLeaveNoMore, OfItsHouse};
 ghost use Rattle.model_answers.specs.ShopView.{ShopView};
 ghost use Rattle.web_arrivals.specs.Coming.{arrival_with, number_of};
-ghost use Rattle.web_arrivals.specs.DeskView.{trait_meaning, worded};
+ghost use Rattle.web_arrivals.specs.DeskView.{trait_meaning, reply_worded};
 ghost use Rattle.web_arrivals.specs.Seen.{HasList, HasRunning, HasShop};
 ghost use Rattle.web_arrivals.specs.Served.{ServesOnce};
 
@@ -48,16 +48,16 @@ impl<T: Tables, B: Dues> ShopDesk<T, B> {
         ensures house { KnowsStill T.sure T.knows self.old.tables self.new.tables }
         ensures served { let tables = trait_meaning T.Tables in T.sure self.new.tables
             → (v : ShopView) → HasShop tables self.old v
-            → IsAnswered (worded self.old) arrival v result (λ w. HasShop tables self.new w) }
-        ensures stands { let tables = trait_meaning T.Tables in let words = worded self.old in
+            → IsAnswered (reply_worded self.old) arrival v result (λ w. HasShop tables self.new w) }
+        ensures stands { let tables = trait_meaning T.Tables in let words = reply_worded self.old in
             T.sure self.new.tables → (p : Opening) (ds : List Delivery)
             → HasList tables words self.old p ds
-            → HasList tables words self.new p (ds ++ delivered arrival result ∷ [])
-            × (told words p ds (delivered arrival result) ≡ result) }
-        ensures running { let tables = trait_meaning T.Tables in
-            T.sure self.new.tables → (r : Running) → HasRunning tables (worded self.old) self.old r
-            → HasRunning tables (worded self.old) self.new
-            (after_act (worded self.old) arrival result r) }
+            → HasList tables words self.new p (ds ++ arrival_delivered arrival result ∷ [])
+            × (answer_told words p ds (arrival_delivered arrival result) ≡ result) }
+        ensures running { let tables = trait_meaning T.Tables in T.sure self.new.tables
+            → (r : Running) → HasRunning tables (reply_worded self.old) self.old r
+            → HasRunning tables (reply_worded self.old) self.new
+            (after_act (reply_worded self.old) arrival result r) }
     {
         if arrival.request.is_write() {
             self.shop.act(alloc, arrival)
@@ -79,7 +79,7 @@ impl<T: Tables, B: Dues> ShopDesk<T, B> {
         ensures office { result ≡ Unavailable → self.new.state ≡ self.old.state }
         ensures sure { T.sure self.new.tables → T.sure self.old.tables }
         ensures once { T.sure self.new.tables
-            → ServesOnce (trait_meaning T.Tables) (worded self.old) self.old
+            → ServesOnce (trait_meaning T.Tables) (reply_worded self.old) self.old
             (arrival_with self.old.organizer self.old.event number tick frame.now) result self.new }
     {
         match self.shop.wording().arrival(alloc, tick, frame, number) {

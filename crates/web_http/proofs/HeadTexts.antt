@@ -10,7 +10,7 @@ use Rattle.std.proofs.lemmas.Grind.{flat_map-append}
 use Rattle.std.proofs.lemmas.Fmt.{length-decimal-le}
 use Rattle.http.specs.StatusCode.{code_digits, reason_phrase}
 use Rattle.base_values.specs.declared.answer.Methods.{Methods}
-use Rattle.web_http.specs.Text.{when, phrase, status_line, has_content, content_fields, challenge, listed, name_if, method_names, allow_field, close_field, head_text}
+use Rattle.web_http.specs.Text.{when, phrase, status_line, has_content, content_fields, challenge, names_listed, name_if, method_names, allow_field, close_field, head_text}
 
 -- ---- the texts
 
@@ -18,7 +18,7 @@ use Rattle.web_http.specs.Text.{when, phrase, status_line, has_content, content_
 names : (get post patch delete : Bool) → concat (
     when get (codes "GET") ∷ when (get && post) (codes ", ") ∷ when post (codes "POST") ∷ when ((get || post) && patch) (codes ", ") ∷ when patch (codes "PATCH")
     ∷ when ((get || post || patch) && delete) (codes ", ") ∷ when delete (codes "DELETE") ∷ codes "\r\n" ∷ [])
-    ≡ listed (name_if get (codes "GET") ++ name_if post (codes "POST") ++ name_if patch (codes "PATCH") ++ name_if delete (codes "DELETE")) ++ codes "\r\n"
+    ≡ names_listed (name_if get (codes "GET") ++ name_if post (codes "POST") ++ name_if patch (codes "PATCH") ++ name_if delete (codes "DELETE")) ++ codes "\r\n"
 names true true true true = refl
 names true true true false = refl
 names true true false true = refl
@@ -69,7 +69,7 @@ pub challenge_short : (status : ℕ) → length (challenge status) ≤ 25
 challenge_short status = when_short _ (codes "WWW-Authenticate: Token\r\n") 25 (omega arith)
 
 listed_short : (get post patch delete : Bool)
-    → length (listed (name_if get (codes "GET") ++ name_if post (codes "POST") ++ name_if patch (codes "PATCH") ++ name_if delete (codes "DELETE"))) ≤ 24
+    → length (names_listed (name_if get (codes "GET") ++ name_if post (codes "POST") ++ name_if patch (codes "PATCH") ++ name_if delete (codes "DELETE"))) ≤ 24
 listed_short true true true true = omega arith
 listed_short true true true false = omega arith
 listed_short true true false true = omega arith
@@ -89,7 +89,7 @@ listed_short false false false false = omega arith
 
 pub allow_short : (allow : Option Methods) → length (allow_field allow) ≤ 33
 allow_short None = omega arith
-allow_short (Some m) = omega (arith, listed_short m.get m.post m.patch m.delete, length-append (listed (method_names m)) (codes "\r\n"))
+allow_short (Some m) = omega (arith, listed_short m.get m.post m.patch m.delete, length-append (names_listed (method_names m)) (codes "\r\n"))
 
 pub close_short : (closes : Bool) → length (close_field closes) ≤ 19
 close_short closes = when_short closes (codes "Connection: close\r\n") 19 (omega arith)

@@ -49,14 +49,14 @@ abbrev pub first_named : List ℕ → List Header → Option (List ℕ)
 first_named name fields = first_of_all (values_named name fields)
 
 -- the length of a body, from what its one field says
-abbrev pub limited : Option ℕ → Result ℕ FrameFault
-limited None = Err BadHead
-limited (Some n) = if nat_lt body_limit n then Err BodyTooLarge else Ok n
+abbrev pub length_limited : Option ℕ → Result ℕ FrameFault
+length_limited None = Err BadHead
+length_limited (Some n) = if nat_lt body_limit n then Err BodyTooLarge else Ok n
 
 -- the length of a body, from the fields that name one
 abbrev pub body_length : List (List ℕ) → Result ℕ FrameFault
 body_length [] = Ok 0
-body_length (v ∷ []) = limited (number_of v)
+body_length (v ∷ []) = length_limited (number_of v)
 body_length (v ∷ w ∷ vs) = Err BadHead
 
 -- the length that the fields declare for a body

@@ -5,8 +5,8 @@ use Rattle.web_http.specs.Messages.{Message}
 use Rattle.web_http.specs.Found.{message_at}
 
 -- the message that the spans of a frame cover in its lines, with its body
-abbrev pub shown : Inside → Message
-shown f = message_at f.head.now f.headers.now f.spans f.body.now
+abbrev pub message_shown : Inside → Message
+message_shown f = message_at f.head.now f.headers.now f.spans f.body.now
 
 -- each span of a frame is within its head, and the head within its lines
 abbrev pub IsShown : Inside → Type 0

@@ -34,10 +34,10 @@ abbrev pub challenge : ℕ → List ℕ
 challenge status = when (status == 401) (codes "WWW-Authenticate: Token\r\n")
 
 -- the names, with a comma and a space between each two
-abbrev pub listed : List (List ℕ) → List ℕ
-listed [] = []
-listed (x ∷ []) = x
-listed (x ∷ y ∷ ys) = x ++ (codes ", " ++ listed (y ∷ ys))
+abbrev pub names_listed : List (List ℕ) → List ℕ
+names_listed [] = []
+names_listed (x ∷ []) = x
+names_listed (x ∷ y ∷ ys) = x ++ (codes ", " ++ names_listed (y ∷ ys))
 
 -- the name alone where the test holds, and else none
 abbrev pub name_if : Bool → List ℕ → List (List ℕ)
@@ -51,7 +51,7 @@ method_names m =
 -- which methods the path has, where that is told
 abbrev pub allow_field : Option Methods → List ℕ
 allow_field None = []
-allow_field (Some m) = concat (codes "Allow: " ∷ listed (method_names m) ∷ codes "\r\n" ∷ [])
+allow_field (Some m) = concat (codes "Allow: " ∷ names_listed (method_names m) ∷ codes "\r\n" ∷ [])
 
 -- the connection ends after the answer
 abbrev pub close_field : Bool → List ℕ

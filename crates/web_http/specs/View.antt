@@ -6,8 +6,8 @@ use Rattle.web_http.specs.Found.{message_found, IsFoundWithin, Quiet}
 use Rattle.web_http.specs.Framed.{Framed}
 
 -- the bytes of the buffer that are not yet taken, and the message that was found in it last, unless it is forgotten
-abbrev pub framed : Inside → Framed
-framed f = record {
+abbrev pub frame_view : Inside → Framed
+frame_view f = record {
   left = drop f.start f.buffer.items;
   taken = option_map (message_found (drop f.base f.buffer.items) f.headers.items) f.taken;
 }

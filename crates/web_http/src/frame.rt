@@ -23,9 +23,9 @@ impl<'a> Model for Frame<'a> {
 
     ghost Value = { Message };
 
-    ghost use Rattle.web_http.specs.Shown.{shown, IsShown};
+    ghost use Rattle.web_http.specs.Shown.{message_shown, IsShown};
 
-    ghost view = { shown };
+    ghost view = { message_shown };
 
     ghost invariant = { IsShown };
 }

@@ -30,9 +30,9 @@ impl Model for Frames {
 
     ghost Value = { Framed };
 
-    ghost use Rattle.web_http.specs.View.{framed, IsFraming};
+    ghost use Rattle.web_http.specs.View.{frame_view, IsFraming};
 
-    ghost view = { framed };
+    ghost view = { frame_view };
 
     ghost invariant = { IsFraming };
 }

@@ -6,7 +6,7 @@ use Rattle.std.proofs.lemmas.Result.{on_ok_weaker}
 use Rattle.std.proofs.Math.Seq.{take-append_seam}
 use Rattle.serde_json.specs.Data.{Data, string, Members, no_members, member, object}
 use Rattle.serde_json.specs.Written.{comma_if, compact_text, members_text}
-use Rattle.web_json.specs.Pieces.{opened, inside, member_text}
+use Rattle.web_json.specs.Pieces.{object_opened, inside, member_text}
 use Rattle.web_json.specs.Values.{list}
 
 -- members behind others
@@ -53,17 +53,17 @@ closed : (members : Members) → compact_text (object members) ≡ 123 ∷ (betw
 closed no_members = refl
 closed (member key value rest) = rw (closed_later rest) (ap (λ text. 123 ∷ text) (regrouped [] (compact_text (string key)) (compact_text value) (between true rest) (125 ∷ [])))
 
-without_last : (xs : List ℕ) (x : ℕ) → opened (xs ++ x ∷ []) ≡ xs
+without_last : (xs : List ℕ) (x : ℕ) → object_opened (xs ++ x ∷ []) ≡ xs
 without_last xs x = rw (length-append xs (x ∷ []), (let e : length xs + 1 - 1 ≡ length xs = omega arith in e)) (take-append_seam xs (x ∷ []))
 
-opened_object : (members : Members) → opened (compact_text (object members)) ≡ 123 ∷ between false members
-opened_object members = ap opened (closed members) ∙ without_last (123 ∷ between false members) 125
+opened_object : (members : Members) → object_opened (compact_text (object members)) ≡ 123 ∷ between false members
+opened_object members = ap object_opened (closed members) ∙ without_last (123 ∷ between false members) 125
 
 -- ---- a text to which an object is written, piece by piece: `old` is what stood before the object
 
 -- the object was begun with these members
-pub begun : (old new text : List ℕ) (members : Members) → text ≡ compact_text (object members) → new ≡ old ++ opened text → new ≡ old ++ 123 ∷ between false members
-begun old new text members is added = added ∙ ap (λ t. old ++ opened t) is ∙ ap (λ t. old ++ t) (opened_object members)
+pub begun : (old new text : List ℕ) (members : Members) → text ≡ compact_text (object members) → new ≡ old ++ object_opened text → new ≡ old ++ 123 ∷ between false members
+begun old new text members is added = added ∙ ap (λ t. old ++ object_opened t) is ∙ ap (λ t. old ++ t) (opened_object members)
 
 -- the object was begun with one member, key and value
 pub begun_with : (old mid new key : List ℕ) (value : Data) → mid ≡ old ++ 123 ∷ [] → new ≡ mid ++ member_text key value

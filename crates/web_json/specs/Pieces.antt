@@ -4,12 +4,12 @@ use Rattle.serde_json.specs.Data.{Data, string}
 use Rattle.serde_json.specs.Written.{comma_if, compact_text}
 
 -- the text of an object without its closing brace
-abbrev pub opened : List ℕ → List ℕ
-opened text = take (length text - 1) text
+abbrev pub object_opened : List ℕ → List ℕ
+object_opened text = take (length text - 1) text
 
 -- the text of an object without both braces
 abbrev pub inside : List ℕ → List ℕ
-inside text = drop 1 (opened text)
+inside text = drop 1 (object_opened text)
 
 -- a key, a colon, and the text of its value
 abbrev pub member_text : List ℕ → Data → List ℕ

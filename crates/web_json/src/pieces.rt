@@ -4,7 +4,7 @@ ghost use Rattle.std.specs.Prelude.{◌≡◌, ◌∷◌, map, false};
 ghost use Rattle.serde_json.specs.Data.{Data};
 ghost use Rattle.serde_json.specs.View.{view};
 ghost use Rattle.serde_json.specs.Written.{has_float, compact_text};
-ghost use Rattle.web_json.specs.Pieces.{opened, inside, member_text, row_text};
+ghost use Rattle.web_json.specs.Pieces.{object_opened, inside, member_text, row_text};
 ghost use Rattle.web_json.specs.Values.{list};
 ghost use Rattle.web_json.specs.Made.{AppendsJson, AppendsText};
 
@@ -30,7 +30,7 @@ pub fn append_value(alloc: Global, out: &mut Vec<u8>, value: &Value) -> Result<(
 /// Appends an object without its closing brace, so that more members can follow.
 pub fn append_opened(alloc: Global, out: &mut Vec<u8>, object: &Value) -> Result<(), AllocError>
     requires { has_float (view object.now) ≡ false }
-    ensures { AppendsText result out.old out.new (opened (compact_text (view object.now))) }
+    ensures { AppendsText result out.old out.new (object_opened (compact_text (view object.now))) }
 {
     let text = object.to_vec(alloc)?;
     out.extend_from_slice(&text[..text.len().saturating_sub(1)])

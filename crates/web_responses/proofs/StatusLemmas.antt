@@ -14,7 +14,7 @@ use Rattle.model_commands.specs.declared.vouchers.VoucherRefusal.TheVariants as 
 use Rattle.model_commands.specs.declared.waiting.WaitingRefusal.TheVariants as waiting
 use Rattle.web_responses.specs.declared.refusals.Manner.{Manner}
 use Rattle.web_responses.specs.declared.refusals.Manner.TheVariants.{Missing, Told, Untold}
-use Rattle.web_responses.specs.Refusals.{manner_of, refused, sent_status, status_in, told_status}
+use Rattle.web_responses.specs.Refusals.{manner_of, refused_response, sent_status, status_in, told_status}
 use Rattle.web_responses.specs.Replies.{is_made, is_row_of, stands_alone, untold, words}
 use Rattle.web_responses.specs.Statuses.{is_given}
 
@@ -39,7 +39,7 @@ either_given true response given = given
 either_given false response given = refl
 
 pub words_given : (organizer event : List ℕ) (reply : Reply) → is_given (words organizer event reply).status ≡ true
-unfolding words refused
+unfolding words refused_response
 words_given organizer event (replies.Made row) = either_given (is_made row) _ refl
 words_given organizer event (replies.Found row) = either_given (stands_alone row) _ refl
 words_given organizer event (replies.Results outcomes) = refl

@@ -200,5 +200,5 @@ unfoldable pub refusal_data : Kind → Refusal → Data
 refusal_data kind refusal = body_in (manner_of kind refusal) refusal
 
 -- a refusal is told by its status and its body
-unfoldable pub refused : Kind → Refusal → Response
-refused kind refusal = response (status_in (manner_of kind refusal) kind refusal) None (refusal_data kind refusal)
+unfoldable pub refused_response : Kind → Refusal → Response
+refused_response kind refusal = response (status_in (manner_of kind refusal) kind refusal) None (refusal_data kind refusal)

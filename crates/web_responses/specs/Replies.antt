@@ -15,11 +15,11 @@ use Rattle.web_json.specs.WaitingRows.{periodic_body}
 use Rattle.web_json.specs.DoorRows.{admitted_body, door_status_body}
 use Rattle.web_responses.specs.Results.{results_body}
 use Rattle.web_responses.specs.Pages.{page_body}
-use Rattle.web_responses.specs.Refusals.{refused}
+use Rattle.web_responses.specs.Refusals.{refused_response}
 
 -- 204 has no body
-abbrev pub gone : Response
-gone = record { status = 204; allow = None; body = [] }
+abbrev pub gone_response : Response
+gone_response = record { status = 204; allow = None; body = [] }
 
 -- what a reply is told that no request leads to: 200 `{}`
 abbrev pub untold : Response
@@ -49,29 +49,29 @@ is_row_of (resources.Tickets door) (shown.Ticket ticket) = true
 is_row_of resource row = false
 
 -- 201 and the row that was made; a position of a check-in list never is
-abbrev pub made : Shown → Response
-made row = if is_made row then response 201 None (shown_body row) else untold
+abbrev pub made_response : Shown → Response
+made_response row = if is_made row then response 201 None (shown_body row) else untold
 
 -- 200 and the row that was asked for or changed, of a kind that is shown by itself
-abbrev pub found : Shown → Response
-found row = if stands_alone row then response 200 None (shown_body row) else untold
+abbrev pub found_response : Shown → Response
+found_response row = if stands_alone row then response 200 None (shown_body row) else untold
 
 -- 200 and a page, whose rows are all of the list's kind
-abbrev pub listed : List ℕ → List ℕ → Page → Response
-listed organizer event page =
+abbrev pub page_response : List ℕ → List ℕ → Page → Response
+page_response organizer event page =
     if list_all (is_row_of page.resource) page.rows then response 200 None (page_body organizer event page) else untold
 
 -- 201 for what was made and for a ticket that was let in or out, 200 for what was asked for, for a bulk call and for
 -- periodic work, 204 for what was deleted, in the shop of these slugs
 unfoldable pub words : List ℕ → List ℕ → Reply → Response
-words organizer event (replies.Made row) = made row
-words organizer event (replies.Found row) = found row
+words organizer event (replies.Made row) = made_response row
+words organizer event (replies.Found row) = found_response row
 words organizer event (replies.Results outcomes) = response 200 None (results_body outcomes)
 words organizer event (replies.Imported verdicts) = untold
-words organizer event (replies.Listed page) = listed organizer event page
-words organizer event replies.Gone = gone
+words organizer event (replies.Listed page) = page_response organizer event page
+words organizer event replies.Gone = gone_response
 words organizer event (replies.Availability left) = response 200 None (availability_body left)
 words organizer event (replies.Periodic counts) = response 200 None (periodic_body counts)
 words organizer event (replies.Admitted position) = response 201 None (admitted_body position)
 words organizer event (replies.Status door) = response 200 None (door_status_body door)
-words organizer event (replies.Refused kind refusal) = refused kind refusal
+words organizer event (replies.Refused kind refusal) = refused_response kind refusal

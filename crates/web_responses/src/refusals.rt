@@ -3,7 +3,7 @@
 ghost use Rattle.std.specs.Prelude.{◌≡◌, IfOk};
 ghost use Rattle.std.specs.Option.{option_copied};
 ghost use Rattle.web_responses.specs.Faults.{fault_body};
-ghost use Rattle.web_responses.specs.Refusals.{catalogue_detail, voucher_detail, order_detail, waiting_detail, door_detail, detail, quota_of, quota_named, refusal_body, numbered_body, wrong_status_body, reason_of, door_body, sent_status, told_status, told_body, manner_of, status_in, refusal_data, refused};
+ghost use Rattle.web_responses.specs.Refusals.{catalogue_detail, voucher_detail, order_detail, waiting_detail, door_detail, detail, quota_of, quota_named, refusal_body, numbered_body, wrong_status_body, reason_of, door_body, sent_status, told_status, told_body, manner_of, status_in, refusal_data, refused_response};
 ghost use Rattle.web_json.specs.Made.{MakesJson};
 
 use crate::faults::fault_value;
@@ -292,9 +292,13 @@ pub(crate) fn refusal_data(alloc: Global, kind: Kind, refusal: Refusal) -> Resul
 }
 
 /// The words for a refusal of a request of that kind.
-#[tactic(auto, unfolding(crate::specs::Refusals::refused))]
-pub(crate) fn refused(alloc: Global, kind: Kind, refusal: Refusal) -> Result<Response, AllocError>
-    ensures { IfOk result (λ t. t ≡ refused kind refusal) }
+#[tactic(auto, unfolding(crate::specs::Refusals::refused_response))]
+pub(crate) fn refused_response(
+    alloc: Global,
+    kind: Kind,
+    refusal: Refusal,
+) -> Result<Response, AllocError>
+    ensures { IfOk result (λ t. t ≡ refused_response kind refusal) }
 {
     let value = refusal_data(alloc, kind, refusal)?;
     let status = status_in(manner_of(kind, refusal), kind, refusal);

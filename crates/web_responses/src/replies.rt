@@ -7,10 +7,10 @@ ghost use Rattle.web_responses.specs.Results.{results_body};
 ghost use Rattle.web_json.specs.Rows.{shown_body, availability_body};
 ghost use Rattle.web_json.specs.WaitingRows.{periodic_body};
 ghost use Rattle.web_json.specs.DoorRows.{admitted_body, door_status_body};
-ghost use Rattle.web_responses.specs.Replies.{gone, untold, is_made, stands_alone, is_row_of, made, found, listed, words};
+ghost use Rattle.web_responses.specs.Replies.{gone_response, untold, is_made, stands_alone, is_row_of, made_response, found_response, page_response, words};
 
 use crate::pages::append_page;
-use crate::refusals::refused;
+use crate::refusals::refused_response;
 use crate::responses::value_response;
 use crate::results::append_results;
 use base_values::{Body, Response, StatusCode};
@@ -59,7 +59,7 @@ fn is_made(shown: &Shown) -> bool
 
 /// 201 and a row that was made.
 fn made_response(alloc: Global, shown: &Shown) -> Result<Response, AllocError>
-    ensures { IfOk result (λ t. t ≡ made shown.now) }
+    ensures { IfOk result (λ t. t ≡ made_response shown.now) }
 {
     if is_made(shown) {
         row_response(alloc, StatusCode::CREATED, shown)
@@ -77,7 +77,7 @@ fn stands_alone(shown: &Shown) -> bool
 
 /// 200 and a row that stands.
 fn found_response(alloc: Global, shown: &Shown) -> Result<Response, AllocError>
-    ensures { IfOk result (λ t. t ≡ found shown.now) }
+    ensures { IfOk result (λ t. t ≡ found_response shown.now) }
 {
     if stands_alone(shown) {
         row_response(alloc, StatusCode::OK, shown)
@@ -116,7 +116,7 @@ fn page_response(
     event: &str,
     page: &Page,
 ) -> Result<Response, AllocError>
-    ensures { IfOk result (λ t. t ≡ listed organizer.now event.now page.now) }
+    ensures { IfOk result (λ t. t ≡ page_response organizer.now event.now page.now) }
 {
     if !are_rows_of(page.resource, page.rows.as_slice()) {
         return untold(alloc);
@@ -136,8 +136,8 @@ fn results_response(alloc: Global, outcomes: &[Outcome]) -> Result<Response, All
 }
 
 /// 204 with no body.
-fn gone(alloc: Global) -> Response
-    ensures { result ≡ gone }
+fn gone_response(alloc: Global) -> Response
+    ensures { result ≡ gone_response }
 {
     told(StatusCode::NO_CONTENT, Vec::new(alloc))
 }
@@ -192,11 +192,11 @@ pub fn words(
         Reply::Results(outcomes) => results_response(alloc, outcomes.as_slice()),
         Reply::Imported(_) => untold(alloc),
         Reply::Listed(page) => page_response(alloc, organizer, event, page),
-        Reply::Gone => Ok(gone(alloc)),
+        Reply::Gone => Ok(gone_response(alloc)),
         Reply::Availability(left) => availability_response(alloc, left),
         Reply::Periodic(counts) => periodic_response(alloc, *counts),
         Reply::Admitted(position) => admitted_response(alloc, position),
         Reply::Status(door) => status_response(alloc, *door),
-        Reply::Refused(kind, refusal) => refused(alloc, *kind, *refusal),
+        Reply::Refused(kind, refusal) => refused_response(alloc, *kind, *refusal),
     }
 }

@@ -7,7 +7,7 @@ use Rattle.web_turns.specs.declared.turns.Next.{Next}
 use Rattle.web_turns.specs.declared.turns.Next.TheVariants as nexts
 use Rattle.web_turns.specs.Acts.{Between}
 use Rattle.web_turns.specs.Halls.{Caller, Callers, Does, DoesAll, IsFree, LetsIn, TurnsAt, callers, with_caller, with_place}
-use Rattle.web_turns.specs.Talks.{begun}
+use Rattle.web_turns.specs.Talks.{talk_begun}
 use Rattle.web_turns.proofs.StoryLemmas.{own_story}
 use Rattle.web_server.specs.Visits.{AnswersCallers, EndsAtOnce, EndsEarly, Happened, Hosts, Rearranged, Rearranges, Reseats, RoundsEnd, Served}
 use Rattle.web_connection.specs.declared.failure.Failure.TheVariants as failures
@@ -26,7 +26,7 @@ pub rearranged_comes : (old new : Callers) → LetsIn old new → Rearranged old
 rearranged_comes old new lets = record { order = nexts.Comes ∷ []; all = (new, lets, refl) }
 
 -- somebody takes a free place
-pub rearranged_seated : (old new : Callers) (place : ℕ) (coming gone : Option (List ℕ)) → IsFree place old → new ≡ with_caller place (begun coming gone) old → Rearranged old new
+pub rearranged_seated : (old new : Callers) (place : ℕ) (coming gone : Option (List ℕ)) → IsFree place old → new ≡ with_caller place (talk_begun coming gone) old → Rearranged old new
 rearranged_seated old new place coming gone free is = rearranged_comes old new (inr (place, coming, gone, free, is))
 
 rearranges_more : (a b c : Callers) (os ps : List Next) → Rearranges a b os → Rearranges b c ps → Rearranges a c (os ++ ps)

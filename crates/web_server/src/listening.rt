@@ -19,7 +19,7 @@ use std::marker::Brand;
 use std::net::{Net, TcpListener, TcpStream};
 use std::sync::ledger::{Blank, Ledger};
 use std::time::Clock;
-use web_cli::{Console, Place, RunFault, said, say};
+use web_cli::{Console, Place, RunFault, end_said, say};
 use web_connection::Desk;
 
 // Answers the callers of a listener by the system's clock, with a ledger for the failures of its ticks.
@@ -77,6 +77,6 @@ pub fn serve_at<
             desk,
             Blank::new(1),
         ),
-        Err(refused) => said(Err(refused)),
+        Err(refused) => end_said(Err(refused)),
     }
 }

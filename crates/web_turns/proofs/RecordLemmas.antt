@@ -12,7 +12,7 @@ use Rattle.web_connection.specs.Run.{Item, Runs, Cursor, Progress, Finished, Cut
 use Rattle.web_turns.specs.declared.stage.Stage.{Stage}
 use Rattle.web_turns.specs.declared.stage.Stage.TheVariants as stages
 use Rattle.web_turns.specs.Acts.{Act, Acts, Records, tick_of, ticks}
-use Rattle.web_turns.specs.Talks.{Went, recorded}
+use Rattle.web_turns.specs.Talks.{Went, acts_recorded}
 
 pub ticks-append : (xs ys : List Act) → ticks (xs ++ ys) ≡ ticks xs ++ ticks ys
 ticks-append xs ys = map-append tick_of xs ys
@@ -61,7 +61,7 @@ module _ {D : Type 0} (Serves : D → Tick → Message → Answer → D → Type
   abbrev pub Recorded : Cursor D → Cursor D → List ℕ → List ℕ → (Cursor (List Act) → Cursor (List Act) → Type 0) → Type 0
   Recorded p q b a Rel =
       (acts : List Act) × Acts Serves p.desk acts q.desk × Adds p.told (ticks acts) q.told
-      × ((own : List Act) (text : List ℕ) → Rel (recorded p.left own (text ++ b)) (recorded q.left (own ++ acts) (text ++ a)))
+      × ((own : List Act) (text : List ℕ) → Rel (acts_recorded p.left own (text ++ b)) (acts_recorded q.left (own ++ acts) (text ++ a)))
 
   progress_recorded : (p q : Cursor D) (b a : List ℕ) → p.taken ≡ Some b → q.taken ≡ Some a → Progress Serves p q → Recorded p q b a (Progress Records)
   progress_recorded p q b a is-b is-a x =
@@ -145,9 +145,9 @@ module _ {D : Type 0} (Serves : D → Tick → Message → Answer → D → Type
         Acts-append p.desk mid.desk q.desk r.0 s.0 r.1 s.1,
         subst (λ (ts : List Tick). Adds p.told ts q.told) (sym (ticks-append r.0 s.0)) (Adds-append p.told mid.told q.told (ticks r.0) (ticks s.0) r.2 s.2),
         λ own text. record {
-          mid = recorded mid.left (own ++ r.0) (text ++ (b ++ w));
+          mid = acts_recorded mid.left (own ++ r.0) (text ++ (b ++ w));
           before = r.3 own text;
-          last = subst (λ (os : List Act). BreaksOff Records e (recorded mid.left (own ++ r.0) (text ++ (b ++ w))) (recorded q.left os (text ++ a)))
+          last = subst (λ (os : List Act). BreaksOff Records e (acts_recorded mid.left (own ++ r.0) (text ++ (b ++ w))) (acts_recorded q.left os (text ++ a)))
               (append_assoc own r.0 s.0) (s.3 (own ++ r.0) text);
         },
       )

@@ -10,7 +10,7 @@ use Rattle.web_http.specs.Messages.{Message}
 use Rattle.web_turns.specs.declared.turns.Next.{Next}
 use Rattle.web_turns.specs.declared.turns.Next.TheVariants as nexts
 use Rattle.web_turns.specs.Acts.{Act, Acts, Between, ticks}
-use Rattle.web_turns.specs.Talks.{Seat, Talks, Turn, begun}
+use Rattle.web_turns.specs.Talks.{Seat, Talks, Turn, talk_begun}
 use Rattle.web_turns.specs.Halls.{AreSeated, Caller, Callers, Does, DoesAll, GoesOn, Hall, Heard, IsFree, IsGone, LeadsOn, LetsIn, Serving, Story, TakesTurn, acts_of, at_place, caller, callers, nobody, of, story, with_caller, with_place}
 use Rattle.web_turns.proofs.RecordLemmas.{Acts-append, ticks-append}
 use Rattle.web_turns.proofs.TurnLemmas.{talks_begin}
@@ -196,7 +196,7 @@ module _ {D : Type 0} (Serves : D → Tick → Message → Answer → D → Type
 
   -- one more caller
   hall_come : (came : ℕ) (from to : Between D) (all : Story) (coming gone : Option (List ℕ)) → Hall Serves came from to all
-      → let seat = begun coming gone in Hall Serves (came + 1) from to (story (all.firsts ++ seat ∷ []) (all.lasts ++ seat ∷ []) all.heard)
+      → let seat = talk_begun coming gone in Hall Serves (came + 1) from to (story (all.firsts ++ seat ∷ []) (all.lasts ++ seat ∷ []) all.heard)
   hall_come came from to all coming gone hall = record {
     acted = hall.acted;
     told = hall.told;
@@ -207,7 +207,7 @@ module _ {D : Type 0} (Serves : D → Tick → Message → Answer → D → Type
   }
     where
       seat : Seat
-      seat = begun coming gone
+      seat = talk_begun coming gone
 
       on : (n : ℕ) → n < came + 1 → (n < came) ⊎ (came ≤ n) → Talks (slice_index_or (all.firsts ++ seat ∷ []) n nobody) (of n all.heard) (slice_index_or (all.lasts ++ seat ∷ []) n nobody)
       on n lt (inl before) =
@@ -271,9 +271,9 @@ module _ {D : Type 0} (Serves : D → Tick → Message → Answer → D → Type
       })
 
   goes_come : (first from : Between D) (old : Callers) (till : Story) (place : ℕ) (coming gone : Option (List ℕ)) → IsFree place old → Serving Serves first from old till
-      → GoesOn Serves first from from old (with_caller place (begun coming gone) old) till
+      → GoesOn Serves first from from old (with_caller place (talk_begun coming gone) old) till
   goes_come first from old till place coming gone free serving =
-      let seat = begun coming gone in record {
+      let seat = talk_begun coming gone in record {
         firsts = seat ∷ [];
         lasts = till.lasts ++ seat ∷ [];
         heard = [];

@@ -15,7 +15,7 @@ use Rattle.web_connection.proofs.RunLemmas.{Chain-messages, Runs-append, broken_
 use Rattle.web_turns.specs.declared.stage.Stage.{Stage}
 use Rattle.web_turns.specs.declared.stage.Stage.TheVariants as stages
 use Rattle.web_turns.specs.Acts.{Act, Between, Records, ticks}
-use Rattle.web_turns.specs.Talks.{Came, Hears, Moves, Replies, Seat, Sends, Takes, Talks, Turn, Went, begun, needs_of, recorded}
+use Rattle.web_turns.specs.Talks.{Came, Hears, Moves, Replies, Seat, Sends, Takes, Talks, Turn, Went, talk_begun, needs_of, acts_recorded}
 use Rattle.web_turns.specs.declared.stage.Needs.TheVariants as needs
 use Rattle.web_turns.proofs.RecordLemmas.{Acts-append, ticks-append, went_recorded}
 
@@ -63,12 +63,12 @@ module _ {D : Type 0} (Serves : D → Tick → Message → Answer → D → Type
 pub none_of_none : HasNone []
 none_of_none = no_head [] (omega arith, λ n line settles. let some = line.some in let here = line.here in absurd (omega arith))
 
-pub talks_begin : (coming gone : Option (List ℕ)) → Talks (begun coming gone) [] (begun coming gone)
+pub talks_begin : (coming gone : Option (List ℕ)) → Talks (talk_begun coming gone) [] (talk_begun coming gone)
 talks_begin coming gone = record {
   bytes = [];
   given = Gives-nil coming;
   text = [];
-  went = (progress_none Records (recorded [] [] []) (recorded [] [] []) refl, none_of_none);
+  went = (progress_none Records (acts_recorded [] [] []) (acts_recorded [] [] []) refl, none_of_none);
   sent = [];
   is = refl;
   out = Adds-nil gone;
@@ -101,8 +101,8 @@ sends_moves old new sends first own talk = record {
   given = subst (λ (g : Option (List ℕ)). Gives first.coming talk.bytes g) (sym sends.coming) talk.given;
   text = talk.text;
   went =
-      subst (λ (g : Option (List ℕ)). Went Records g new.stage (recorded talk.bytes [] []) (recorded new.left own talk.text)) (sym sends.coming)
-      (subst₂ (λ (s : Stage) (l : List ℕ). Went Records old.coming s (recorded talk.bytes [] []) (recorded l own talk.text)) (sym sends.stage) (sym sends.left) talk.went);
+      subst (λ (g : Option (List ℕ)). Went Records g new.stage (acts_recorded talk.bytes [] []) (acts_recorded new.left own talk.text)) (sym sends.coming)
+      (subst₂ (λ (s : Stage) (l : List ℕ). Went Records old.coming s (acts_recorded talk.bytes [] []) (acts_recorded l own talk.text)) (sym sends.stage) (sym sends.left) talk.went);
   sent = talk.sent ++ sends.part;
   is = talk.is ∙ (ap (λ (u : List ℕ). talk.sent ++ u) sends.unsent ∙ sym (append_assoc talk.sent sends.part new.unsent));
   out = Adds-append first.gone old.gone new.gone talk.sent sends.part talk.out sends.gone;
@@ -113,7 +113,7 @@ hears_moves stage old new was is came none unsent gone first own talk = record {
   bytes = talk.bytes ++ piece stage came;
   given = Gives-append first.coming old.coming new.coming talk.bytes (piece stage came) talk.given (gives stage came);
   text = talk.text;
-  went = subst (λ (s : Stage). Went Records new.coming s (recorded (talk.bytes ++ piece stage came) [] []) (recorded new.left own talk.text)) (sym is) (on stage came);
+  went = subst (λ (s : Stage). Went Records new.coming s (acts_recorded (talk.bytes ++ piece stage came) [] []) (acts_recorded new.left own talk.text)) (sym is) (on stage came);
   sent = talk.sent;
   is = talk.is ∙ ap (λ (u : List ℕ). talk.sent ++ u) (sym unsent);
   out = subst (λ (g : Option (List ℕ)). Adds first.gone talk.sent g) (sym gone) talk.out;
@@ -131,19 +131,19 @@ hears_moves stage old new was is came none unsent gone first own talk = record {
     gives stages.Ends c = c.0
     gives stages.Lost c = c.1
 
-    before : Progress Records (recorded talk.bytes [] []) (recorded old.left own talk.text) × HasNone old.left
-    before = subst (λ (s : Stage). Went Records old.coming s (recorded talk.bytes [] []) (recorded old.left own talk.text)) was talk.went
+    before : Progress Records (acts_recorded talk.bytes [] []) (acts_recorded old.left own talk.text) × HasNone old.left
+    before = subst (λ (s : Stage). Went Records old.coming s (acts_recorded talk.bytes [] []) (acts_recorded old.left own talk.text)) was talk.went
 
-    fed : (more : List ℕ) → Progress Records (recorded (talk.bytes ++ more) [] []) (recorded (old.left ++ more) own talk.text)
+    fed : (more : List ℕ) → Progress Records (acts_recorded (talk.bytes ++ more) [] []) (acts_recorded (old.left ++ more) own talk.text)
     fed more = progress_feed Records talk.bytes old.left more _ _ _ _ _ _ before.0
 
     -- nothing more came
-    stays : new.left ≡ old.left → Progress Records (recorded (talk.bytes ++ []) [] []) (recorded new.left own talk.text)
-    stays same = subst₂ (λ (b l : List ℕ). Progress Records (recorded b [] []) (recorded l own talk.text)) (sym (append-nil talk.bytes)) (sym same) before.0
+    stays : new.left ≡ old.left → Progress Records (acts_recorded (talk.bytes ++ []) [] []) (acts_recorded new.left own talk.text)
+    stays same = subst₂ (λ (b l : List ℕ). Progress Records (acts_recorded b [] []) (acts_recorded l own talk.text)) (sym (append-nil talk.bytes)) (sym same) before.0
 
-    on : (s : Stage) (c : Came s old new) → Went Records new.coming s (recorded (talk.bytes ++ piece s c) [] []) (recorded new.left own talk.text)
+    on : (s : Stage) (c : Came s old new) → Went Records new.coming s (acts_recorded (talk.bytes ++ piece s c) [] []) (acts_recorded new.left own talk.text)
     on stages.Waits c = (stays c.1, subst HasNone (sym c.1) none)
-    on stages.Goes c = subst (λ (l : List ℕ). Progress Records (recorded (talk.bytes ++ c.0) [] []) (recorded l own talk.text)) (sym c.2) (fed c.0)
+    on stages.Goes c = subst (λ (l : List ℕ). Progress Records (acts_recorded (talk.bytes ++ c.0) [] []) (acts_recorded l own talk.text)) (sym c.2) (fed c.0)
     on stages.Ends c = finished_none Records new.coming _ _ (stays c.1) (subst HasNone (sym c.1) none) c.2
     on stages.Lost c = (failures.Memory, memory_broken Records _ (old.left ++ c.0) new.left _ _ _ (fed c.0) (old.left, c.0, refl, none, c.2))
 
@@ -179,13 +179,13 @@ module _ {D : Type 0} (Serves : D → Tick → Message → Answer → D → Type
         acted = r.1;
         told = r.2;
         talks = λ first own talk.
-            let before = subst (λ (s : Stage). Went Records old.coming s (recorded talk.bytes [] []) (recorded old.left own talk.text)) was talk.went in
+            let before = subst (λ (s : Stage). Went Records old.coming s (acts_recorded talk.bytes [] []) (acts_recorded old.left own talk.text)) was talk.went in
             let all : talk.text ≡ talk.sent = talk.is ∙ (ap (λ (u : List ℕ). talk.sent ++ u) none ∙ append-nil talk.sent) in record {
               bytes = talk.bytes;
               given = subst (λ (g : Option (List ℕ)). Gives first.coming talk.bytes g) (sym replies.coming) talk.given;
               text = talk.text ++ new.unsent;
-              went = went_on Records new.coming new.stage (recorded talk.bytes [] []) (recorded old.left own talk.text) (recorded new.left (own ++ r.0) (talk.text ++ new.unsent)) before
-                  (subst (λ (t : List ℕ). Went Records new.coming new.stage (recorded old.left own t) (recorded new.left (own ++ r.0) (talk.text ++ new.unsent))) (append-nil talk.text) (r.3 own talk.text));
+              went = went_on Records new.coming new.stage (acts_recorded talk.bytes [] []) (acts_recorded old.left own talk.text) (acts_recorded new.left (own ++ r.0) (talk.text ++ new.unsent)) before
+                  (subst (λ (t : List ℕ). Went Records new.coming new.stage (acts_recorded old.left own t) (acts_recorded new.left (own ++ r.0) (talk.text ++ new.unsent))) (append-nil talk.text) (r.3 own talk.text));
               sent = talk.sent;
               is = ap (λ (u : List ℕ). u ++ new.unsent) all;
               out = subst (λ (g : Option (List ℕ)). Adds first.gone talk.sent g) (sym replies.gone) talk.out;

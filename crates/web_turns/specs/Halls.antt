@@ -11,7 +11,7 @@ use Rattle.web_turns.specs.declared.stage.Stage.TheVariants as stages
 use Rattle.web_turns.specs.declared.turns.Next.{Next}
 use Rattle.web_turns.specs.declared.turns.Next.TheVariants as nexts
 use Rattle.web_turns.specs.Acts.{Act, Acts, Between, ticks}
-use Rattle.web_turns.specs.Talks.{Seat, Takes, Talks, Turn, begun, needs_of}
+use Rattle.web_turns.specs.Talks.{Seat, Takes, Talks, Turn, talk_begun, needs_of}
 
 -- ---- places
 
@@ -25,9 +25,9 @@ abbrev pub caller : ℕ → Seat → Caller
 caller number seat = record { number = number; seat = seat }
 
 -- a place, which is free or has a caller
-abbrev pub placed : ℕ → Option Seat → Option Caller
-placed number None = None
-placed number (Some seat) = Some (caller number seat)
+abbrev pub caller_placed : ℕ → Option Seat → Option Caller
+caller_placed number None = None
+caller_placed number (Some seat) = Some (caller number seat)
 
 -- how many callers came, and who is at each place
 pub record Callers : Type 0 where
@@ -92,7 +92,7 @@ IsSpare (Some frames) = frames.left ≡ []
 
 -- Somebody comes, to a place that is free; or nobody does, as where none is free.
 abbrev pub LetsIn : Callers → Callers → Type 0
-LetsIn old new = (new ≡ old) ⊎ ((place : ℕ) × (coming : Option (List ℕ)) × (gone : Option (List ℕ)) × IsFree place old × (new ≡ with_caller place (begun coming gone) old))
+LetsIn old new = (new ≡ old) ⊎ ((place : ℕ) × (coming : Option (List ℕ)) × (gone : Option (List ℕ)) × IsFree place old × (new ≡ with_caller place (talk_begun coming gone) old))
 
 -- one thing that happens: somebody comes, or has a turn, or leaves
 abbrev pub Does : {D : Type 0} → (D → Tick → Message → Answer → D → Type 0) → Between D → Between D → Callers → Callers → Next → Type 0

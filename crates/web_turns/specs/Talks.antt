@@ -23,8 +23,8 @@ pub record Seat : Type 0 where
   pub gone : Option (List ℕ)
 
 -- a conversation that begins: it waits for its first bytes
-abbrev pub begun : Option (List ℕ) → Option (List ℕ) → Seat
-begun coming gone = record { stage = stages.Waits; left = []; unsent = []; coming = coming; gone = gone }
+abbrev pub talk_begun : Option (List ℕ) → Option (List ℕ) → Seat
+talk_begun coming gone = record { stage = stages.Waits; left = []; unsent = []; coming = coming; gone = gone }
 
 -- what it needs for its next turn: room, where an answer isn't sent whole or another message may be there; bytes, where it waits for them;
 -- nothing, where it is over
@@ -48,15 +48,15 @@ Went Serves after stages.Ends p q = Finished Serves (AreAll p.left after) p q
 Went Serves after stages.Lost p q = (e : Failure) × Broken Serves e p q
 
 -- the cursor of a conversation that has these acts behind it, whose texts are this text
-abbrev pub recorded : List ℕ → List Act → List ℕ → Cursor (List Act)
-recorded left own text = cursor left (Some (ticks own)) own (Some text)
+abbrev pub acts_recorded : List ℕ → List Act → List ℕ → Cursor (List Act)
+acts_recorded left own text = cursor left (Some (ticks own)) own (Some text)
 
 -- A conversation from its first byte: its own acts are those of its own bytes, in order, and what went out is the front of their texts.
 pub record Talks (first : Seat) (own : List Act) (now : Seat) : Type 0 where
   pub bytes : List ℕ
   pub given : Gives first.coming bytes now.coming
   pub text : List ℕ
-  pub went : Went Records now.coming now.stage (recorded bytes [] []) (recorded now.left own text)
+  pub went : Went Records now.coming now.stage (acts_recorded bytes [] []) (acts_recorded now.left own text)
   pub sent : List ℕ
   pub is : text ≡ sent ++ now.unsent
   pub out : Adds first.gone sent now.gone

@@ -3,7 +3,7 @@
 ghost use Rattle.std.specs.Prelude.{◌≡◌, ℕ, None, length, option_map, replicate, IfOk, IfSome, IfNone, OnOk, OnErr};
 ghost use Rattle.web_connection.specs.Run.{AtTick};
 ghost use Rattle.web_turns.specs.Acts.{between};
-ghost use Rattle.web_turns.specs.Talks.{begun};
+ghost use Rattle.web_turns.specs.Talks.{talk_begun};
 ghost use Rattle.web_turns.specs.Halls.{FindsFree, IsFree, TurnsAt, at_place, callers, leaves_with, place_needs, with_caller, with_place};
 
 use crate::place::Place;
@@ -111,7 +111,7 @@ impl<E: Ends> Hall<E> {
     pub fn let_in(&mut self, alloc: Global, place: usize, ends: E) -> Result<(), AllocError>
         requires { IsFree place self.old }
         ensures come { OnOk result
-            (self.new ≡ with_caller place (begun (E.left ends) (E.taken ends)) self.old) }
+            (self.new ≡ with_caller place (talk_begun (E.left ends) (E.taken ends)) self.old) }
         ensures same { OnErr result (self.new ≡ self.old) }
     {
         let number = self.came;

@@ -3,7 +3,7 @@
 ghost use Rattle.std.specs.Prelude.{◌≡◌, [], None, Some, is_none, option_map, IfOk, OnOk, OnErr};
 ghost use Rattle.web_connection.specs.Run.{AtTick};
 ghost use Rattle.web_turns.specs.Acts.{between};
-ghost use Rattle.web_turns.specs.Talks.{begun};
+ghost use Rattle.web_turns.specs.Talks.{talk_begun};
 ghost use Rattle.web_turns.specs.Halls.{IsSpare, TakesTurn, caller, leaves_with, place_needs};
 
 use crate::stage::Needs;
@@ -26,11 +26,11 @@ pub struct Place<E: Ends> {
 
 impl<E: Ends> Model for Place<E> {
     ghost use Rattle.std.specs.Prelude.{Option};
-    ghost use Rattle.web_turns.specs.Halls.{Caller, placed, IsSpare};
+    ghost use Rattle.web_turns.specs.Halls.{Caller, caller_placed, IsSpare};
 
     ghost Value = { Option Caller };
 
-    ghost view = { λ p. placed p.number p.talk };
+    ghost view = { λ p. caller_placed p.number p.talk };
 
     ghost invariant = { λ p. IsSpare p.spare };
 }
@@ -89,7 +89,7 @@ impl<E: Ends> Place<E> {
     pub fn take(&mut self, alloc: Global, number: u64, ends: E) -> Result<(), AllocError>
         requires { self.old ≡ None }
         ensures taken { OnOk result
-            (self.new ≡ Some (caller number (begun (E.left ends) (E.taken ends)))) }
+            (self.new ≡ Some (caller number (talk_begun (E.left ends) (E.taken ends)))) }
         ensures free { OnErr result (self.new ≡ None) }
     {
         let frames = room_of(alloc, self.spare.take())?;

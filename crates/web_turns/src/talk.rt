@@ -4,7 +4,7 @@ ghost use Rattle.std.specs.Prelude.{◌≡◌, []};
 ghost use Rattle.web_connection.specs.Run.{AtTick, IsPiece};
 ghost use Rattle.web_turns.specs.declared.stage.Stage.TheVariants as stages;
 ghost use Rattle.web_turns.specs.Acts.{between};
-ghost use Rattle.web_turns.specs.Talks.{Hears, Moves, Replies, Sends, Takes, Turn, begun, needs_of};
+ghost use Rattle.web_turns.specs.Talks.{Hears, Moves, Replies, Sends, Takes, Turn, talk_begun, needs_of};
 
 use crate::stage::{Needs, Stage};
 use base_devices::{Device, Refused, Ticks};
@@ -53,7 +53,7 @@ impl<E: Ends> Talk<E> {
     /// A conversation that begins, in room where nothing is left of another one.
     pub fn new(alloc: Global, ends: E, frames: Frames) -> Self
         requires frames { frames.left ≡ [] }
-        ensures begins { result ≡ begun (E.left ends) (E.taken ends) }
+        ensures begins { result ≡ talk_begun (E.left ends) (E.taken ends) }
     {
         Talk {
             ends,

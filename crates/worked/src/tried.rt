@@ -11,7 +11,7 @@ use std::alloc::{AllocError, Global};
 use std::io::Read;
 use std::marker::Brand;
 use std::sync::ledger::{Blank, Ledger};
-use web_cli::{HouseFiles, LineEnd, Place, Report, RunFault, counted, said, say};
+use web_cli::{HouseFiles, LineEnd, Place, Report, RunFault, counted, end_said, say};
 use web_http::write_all;
 
 /// What a command line came to.
@@ -77,7 +77,7 @@ impl HouseFiles for OneFile {
         }
         match say(writer, b"listening on ", place.text.as_bytes()) {
             Ok(()) => Ok(()),
-            Err(refused) => said(Err(refused)),
+            Err(refused) => end_said(Err(refused)),
         }
     }
 

@@ -2,7 +2,7 @@
 
 ghost use Rattle.std.specs.Prelude.{filter};
 ghost use Rattle.model_answers.specs.KeptAnswers.{lasts};
-ghost use Rattle.model_answers.specs.ShopView.{listed};
+ghost use Rattle.model_answers.specs.ShopView.{kept_listed};
 ghost use Rattle.file_rows.specs.Changes.{Changes, ChangesFit};
 ghost use Rattle.file_rows.specs.Written.{WritesInside};
 ghost use Rattle.file_meaning.specs.Free.{IsFree};
@@ -22,7 +22,8 @@ fn keep_lasting<S: Alter>(
     at: Moment,
 ) -> Result<(), RowError>
     ensures { WritesInside S.Store tx.old tx.new
-        (Changes (with_listed number (filter (λ k. lasts at k.at) (listed kept.entry)))) result }
+        (Changes (with_listed number (filter (λ k. lasts at k.at) (kept_listed kept.entry))))
+        result }
 {
     match kept {
         Some(answer) if answer.lasts(at) => keep(tx, number, answer),
@@ -39,7 +40,7 @@ pub(crate) fn write_answer<S: Alter>(
 ) -> Result<(), RowError>
     ensures { WritesInside S.Store tx.old tx.new
         (ChangesFit (IsFree number) (λ t. without_past at
-        (with_listed number (listed kept.entry) (without_past at t)))) result }
+        (with_listed number (kept_listed kept.entry) (without_past at t)))) result }
 {
     forget(tx, at)?;
     keep_lasting(tx, number, kept, at)

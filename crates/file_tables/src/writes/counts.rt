@@ -3,7 +3,7 @@
 ghost use Rattle.file_rows.specs.Changes.{Changes, ChangesFit};
 ghost use Rattle.file_rows.specs.Written.{WritesInside};
 ghost use Rattle.file_meaning.specs.Free.{IsFree};
-ghost use Rattle.file_meaning.specs.Made.{put_count, put_exit, put_uses, each, counted};
+ghost use Rattle.file_meaning.specs.Made.{put_count, put_exit, put_uses, each, with_counts};
 ghost use Rattle.file_tables.specs.Free.{count_stays_free, uses_stay_free};
 
 use crate::writes::rows::put_row;
@@ -84,7 +84,7 @@ pub(crate) fn write_counts<S: Alter>(
     from: u64,
 ) -> Result<(), RowError>
     ensures { WritesInside S.Store tx.old tx.new
-        (ChangesFit (IsFree from) (counted counts.now)) result }
+        (ChangesFit (IsFree from) (with_counts counts.now)) result }
 {
     let free = write_each(alloc, tx, counts.vouchers(), from)?;
     write_each(alloc, tx, counts.quotas(), free)?;

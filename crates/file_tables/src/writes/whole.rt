@@ -1,8 +1,8 @@
 //! A commit's writes, all of them.
 
 ghost use Rattle.std.specs.Prelude.{◌+◌};
-ghost use Rattle.model_answers.specs.ShopView.{listed};
-ghost use Rattle.file_meaning.specs.Made.{done, next_after};
+ghost use Rattle.model_answers.specs.ShopView.{kept_listed};
+ghost use Rattle.file_meaning.specs.Made.{commit_made, next_after};
 ghost use Rattle.file_tables.specs.Numbered.{NumbersOn};
 
 use crate::writes::answers::write_answer;
@@ -30,7 +30,7 @@ pub fn write_all<S: Alter>(
     at: Moment,
 ) -> Result<u64, RowError>
     ensures { NumbersOn S.Store tx.old tx.new from
-        (done shop.now changes.now counts.now from (listed kept.entry) at)
+        (commit_made shop.now changes.now counts.now from (kept_listed kept.entry) at)
         (next_after changes.now from + 1) result }
 {
     file_writes::put(tx, shop)?;

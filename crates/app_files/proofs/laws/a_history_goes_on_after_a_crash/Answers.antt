@@ -1,5 +1,5 @@
 use Rattle.std.proofs.Common.{◌∷◌, [], None, refl, subst}
-use Rattle.office_deliveries.specs.Histories.{Crashed, MayLeave, Running, opened}
+use Rattle.office_deliveries.specs.Histories.{Crashed, MayLeave, Running, running_from}
 use Rattle.office_deliveries.proofs.Crashes.{happens_on}
 use Rattle.web_handler.specs.Streams.{words_of}
 use Rattle.web_turns.specs.Acts.{between}
@@ -15,4 +15,4 @@ returns g c = λ house begun r es before after on again.
     c.callers_go_on_after_a_crash.ensures.goes_on house r 0 (story [] [] []) (between None (over c.args.last.now before)) None before.organizer before.event before.state
     (nobody_came _ (between None (over c.args.last.now before))) on.of on.running again.found after.organizer after.event after.state again.opens again.clean in
     let may = subst (λ (q : Running). MayLeave (words_of house) q x.1) x.2.acted x.3 in
-    (x.1, record { of = x.4; happened = happens_on (words_of house) begun es (Crashed ∷ []) r (opened (words_of house) x.1) on.happened (x.1, may, refl); running = x.5 })
+    (x.1, record { of = x.4; happened = happens_on (words_of house) begun es (Crashed ∷ []) r (running_from (words_of house) x.1) on.happened (x.1, may, refl); running = x.5 })

@@ -13,4 +13,4 @@ returns-in-Ok g c =
     let well : is_token c.args.token.now ≡ true = search rules in
     let digits : c.as_bytes.result.now ≡ decimal c.in-Ok.number = c.as_bytes.ensures.value ∙ c.format.ensures.text in
     let written = writes_as c.say.result old new _ _ (ap (λ (d : List ℕ). codes "token " ++ (d ++ 10 ∷ [])) digits) c.say.ensures in
-    adds_there g.F.HouseFiles.added _ _ _ old new (Ok c.in-Ok.number) c.said.result well c.in-Ok.ensures (c.say.result, written, c.said.ensures)
+    adds_there g.F.HouseFiles.added _ _ _ old new (Ok c.in-Ok.number) c.end_said.result well c.in-Ok.ensures (c.say.result, written, c.end_said.ensures)

@@ -9,4 +9,4 @@ returns-in-Ok g c =
     let old : Page = writer_page g.W.Drain c.args.writer.now in
     let new : Page = writer_page g.W.Drain c.say.new.writer in
     let well : (is_slug c.args.organizer.now && is_slug c.args.event.now) ≡ true = search rules in
-    makes_there g.F.HouseFiles.made _ _ _ _ old new (Ok c.in-Ok.field-0) c.said.result well c.in-Ok.ensures (c.say.result, c.say.ensures, c.said.ensures)
+    makes_there g.F.HouseFiles.made _ _ _ _ old new (Ok c.in-Ok.field-0) c.end_said.result well c.in-Ok.ensures (c.say.result, c.say.ensures, c.end_said.ensures)

@@ -7,4 +7,4 @@ returns-in-Ok g c =
     let old : Page = writer_page g.W.Drain c.args.writer.now in
     let new : Page = writer_page g.W.Drain c.write_all.new.writer in
     let written = writes_as c.write_all.result old new _ _ c.as_slice.ensures c.write_all.ensures in
-    rw c.in-Ok.is (c.write_all.result, written, c.said.ensures)
+    rw c.in-Ok.is (c.write_all.result, written, c.end_said.ensures)

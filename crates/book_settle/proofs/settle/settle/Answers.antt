@@ -4,7 +4,7 @@ use Rattle.model_catalogue.specs.declared.rows.Quota.{Quota}
 use Rattle.model_catalogue.specs.CatalogueLists.{CatalogueLists}
 use Rattle.model_rows.specs.declared.changes.Change.{Change}
 use Rattle.model_rows.specs.declared.rows.Voucher.{Voucher}
-use Rattle.model_rows.specs.Change.{applied}
+use Rattle.model_rows.specs.Change.{changes_applied}
 use Rattle.model_rows.specs.CountRows.{counts_after}
 use Rattle.model_rows.specs.Lists.{State}
 use Rattle.model_rows.specs.Usage.{redeemed}
@@ -46,7 +46,7 @@ pub returns-clause-kept : goal.returns-clause-kept
 returns-clause-kept c =
     let old : State = c.args.store.now.state in
     let new : State = c.carry_all.new.store.state in
-    let is : new ≡ applied c.args.changes c.args.at old = search rules in
+    let is : new ≡ changes_applied c.args.changes c.args.at old = search rules in
     let before = subst (λ (l : CatalogueLists). AreInOrder (λ (q : Quota). q.id) l.quotas) c.catalogue-old.ensures c.known-2.ensures.in_order in
     let after = subst (λ (l : List Quota). AreInOrder (λ (q : Quota). q.id) l) (sym c.quotas.ensures) c.known-4.ensures.in_order in
     let quotas = c.quotas.ensures ∙ ap (λ (l : CatalogueLists). l.quotas) c.catalogue-catalogue.ensures in

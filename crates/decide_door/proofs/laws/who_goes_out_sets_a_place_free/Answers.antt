@@ -1,7 +1,7 @@
 use Rattle.std.proofs.Common.{◌≡◌, Ok, sym, ap, ◌∙◌}
 use Rattle.model_rows.specs.declared.rows.OrderPos.{OrderPos}
 use Rattle.model_rows.specs.Lists.{State}
-use Rattle.decide_door.specs.Scanned.{scanned}
+use Rattle.decide_door.specs.Scanned.{ticket_scanned}
 use Rattle.decide_door.proofs.Places.{place_freed, place_taken_back, both_used}
 use Rattle.decide_door.proofs.laws.who_goes_out_sets_a_place_free.Goals as goal
 
@@ -13,6 +13,6 @@ returns-clause-taken_back c = λ s quota sound. place_taken_back s.list s.ticket
 
 pub returns-clause-both : goal.returns-clause-both
 returns-clause-both c = λ s next quota fit sound behind same gone.
-    let passed : scanned next.list next.ticket next.scan s.after ≡ Ok (next.after, s.position) =
-    ap (λ (state : State). scanned next.list next.ticket next.scan state) (sym behind) ∙ next.passed ∙ ap (λ (position : OrderPos). Ok (next.after, position)) same in
+    let passed : ticket_scanned next.list next.ticket next.scan s.after ≡ Ok (next.after, s.position) =
+    ap (λ (state : State). ticket_scanned next.list next.ticket next.scan state) (sym behind) ∙ next.passed ∙ ap (λ (position : OrderPos). Ok (next.after, position)) same in
     both_used s.list next.list s.ticket next.ticket s.scan next.scan s.before s.after next.after s.position quota fit sound s.passed passed gone

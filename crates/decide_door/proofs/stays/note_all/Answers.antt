@@ -1,7 +1,7 @@
 use Rattle.std.proofs.Common.{◌≡◌, ◌∷◌, ◌+◌, sym, ap, ◌∙◌, map, drop, arith}
 use Rattle.std.proofs.lemmas.List.{drop_more, drop_all, map-id}
 use Rattle.model_rows.specs.declared.rows.Checkin.{Checkin}
-use Rattle.decide_door.specs.Stays.{noted, noted_all}
+use Rattle.decide_door.specs.Stays.{checkin_noted, noted_all}
 use Rattle.base_sorted.proofs.Mapped.{map_two}
 use Rattle.decide_door.proofs.stays.note_all.Goals as goal
 
@@ -16,7 +16,7 @@ loop-checkin-preserved c =
     let left : drop i all ≡ checkin ∷ rest = drop_more all i checkin c.loop-checkin-test.true ∙ ap (λ (r : Checkin). r ∷ rest) (sym c.checkin-item.is) in
     record {
       order = c.note.ensures.order;
-      rest = ap (map (noted_all list rest)) c.note.ensures.noted ∙ map_two (noted list checkin) (noted_all list rest) stays ∙ ap (λ l. map (noted_all list l) stays) (sym left) ∙ c.loop-checkin.invariant.rest;
+      rest = ap (map (noted_all list rest)) c.note.ensures.noted ∙ map_two (checkin_noted list checkin) (noted_all list rest) stays ∙ ap (λ l. map (noted_all list l) stays) (sym left) ∙ c.loop-checkin.invariant.rest;
     }
 
 pub returns : goal.returns

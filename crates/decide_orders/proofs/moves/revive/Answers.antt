@@ -3,7 +3,7 @@ use Rattle.std.proofs.lemmas.Result.{err_from_is_err_and}
 use Rattle.draft_changes.specs.DraftState.{now}
 use Rattle.model_rows.specs.declared.changes.Change.TheVariants.{PutOrder}
 use Rattle.model_rows.specs.declared.rows.Own.TheVariants.{Position}
-use Rattle.model_rows.specs.Change.{changed}
+use Rattle.model_rows.specs.Change.{change_applied}
 use Rattle.model_rows.specs.Lists.{positions_of}
 use Rattle.model_rows.proofs.OrderHeadroom.{headroom_revived_order}
 use Rattle.model_invariant.specs.Positions.{by_positionid}
@@ -20,12 +20,12 @@ returns g c =
     let row = c.args.row in
     let state = now c.args.draft.now in
     let all = positions_of row.id state.lists in
-    let put : now c.put_order.new.self ≡ changed (PutOrder row) state = c.in_ok-put_order.ensures.ok in
+    let put : now c.put_order.new.self ≡ change_applied (PutOrder row) state = c.in_ok-put_order.ensures.ok in
     let own : c.deref.result.now ≡ map (λ p. Position p.id) all = search rules in
     let sorted : c.as_slice-3.result.now ≡ by_positionid all = search rules in
     let tested = tested_again row c.in_ok-put_order.ensures.extends c.mark-mark.ensures.place c.mark-mark.ensures.here put own sorted c.test_sale-tested.ensures in
     let done = revived_done row state (sym c.have_uses_again.ensures ∙ c.if-not-have_uses_again.false) (sym tested ∙ sym c.in_ok-end_attempt.ensures.answer) in
-    let after : now c.end_attempt.new.self ≡ changed (PutOrder row) state = ap now c.in_ok-end_attempt.ensures.kept ∙ put in
+    let after : now c.end_attempt.new.self ≡ change_applied (PutOrder row) state = ap now c.in_ok-end_attempt.ensures.kept ∙ put in
     let rows : c.in_ok-positions-2.positions ≡ by_positionid all = search rules in
     record {
       done = done ∙ sym (λ i. Ok (after i, record { order = c.in_ok-order.ensures i; positions = rows i }));

@@ -3,7 +3,7 @@ use Rattle.base_sorted.proofs.Places.{insert_is_with_row}
 use Rattle.model_catalogue.specs.CatalogueLists.{CatalogueLists}
 use Rattle.draft_changes.specs.declared.bases.Base.{Base}
 use Rattle.draft_deltas.specs.Counts.{value_at}
-use Rattle.draft_changes.specs.Used.{used, IsBase, AreBases}
+use Rattle.draft_changes.specs.Used.{places_used, IsBase, AreBases}
 use Rattle.draft_changes.proofs.Asked.{known_more}
 use Rattle.draft_changes.proofs.Standing.{quota_stands, value_there}
 use Rattle.draft_changes.proofs.bases.ask_base.Goals as goal
@@ -15,8 +15,8 @@ returns-in_ok-insert-in-Err g c =
     let quota = c.index-quotas-index.result in
     let sold : quotas ≡ lists.catalogue.quotas = c.quotas-quotas.ensures ∙ ap (λ (k : CatalogueLists). k.quotas) c.catalogue-catalogue.ensures in
     let new : Base = record { place = c.args.place; total = c.used_in_book-total.result } in
-    let value : new.total ≡ value_at 0 (used lists c.args.at) lists.catalogue.quotas c.args.place =
-    c.used_in_book-total.ensures.value ∙ sym (value_there (used lists c.args.at) quotas lists.catalogue.quotas c.args.place quota sold (omega arith) c.index-quotas-index.is) in
+    let value : new.total ≡ value_at 0 (places_used lists c.args.at) lists.catalogue.quotas c.args.place =
+    c.used_in_book-total.ensures.value ∙ sym (value_there (places_used lists c.args.at) quotas lists.catalogue.quotas c.args.place quota sold (omega arith) c.index-quotas-index.is) in
     let base : IsBase lists c.args.at lists.catalogue.quotas c.args.place new = record { value = value; few = c.used_in_book-total.ensures.few } in
     let is = c.in_ok-insert-in-Err.ensures.items ∙ insert_is_with_row (λ (b : Base). b.place) _ _ c.in-Err.gap (rw c.deref.ensures.value at c.in-Err.ensures.absent) in
     subst (λ (l : List Base). AreBases lists c.args.at l) (sym is) (known_more lists c.args.at c.args.bases.now.items new base c.requires.known)

@@ -14,10 +14,17 @@ pub loop-purchase-preserved : goal.loop-purchase-preserved
 loop-purchase-preserved g c =
     let purchases = c.args.purchases.now in
     let i = c.loop-purchase.purchase-index in
+    let spots = c.loop-purchase.spots.items in
     record {
-      here = λ q. ap (λ spots. count_by (λ (s : Spot). is_in q s.product) spots) c.in_ok-push.ensures.items ∙ pushed_count (λ (s : Spot). is_in q s.product) (λ (t : Purchase). is_in q t.product) c.loop-purchase.spots.items purchases i _ c.purchase-item.result (omega arith) c.purchase-item.is (ap (is_in q) c.spot_of.ensures.product) (c.loop-purchase.invariant.here q);
-      covered = λ q at. ap (λ spots. count_by (λ (s : Spot). blocks_if at q (option_copied s.voucher)) spots) c.in_ok-push.ensures.items ∙ pushed_count (λ (s : Spot). blocks_if at q (option_copied s.voucher)) (λ (t : Purchase). is_covered_by (rows_of c.args.overlay.now) at q t.voucher) c.loop-purchase.spots.items purchases i _ c.purchase-item.result (omega arith) c.purchase-item.is (c.spot_of.ensures.covered q at) (c.loop-purchase.invariant.covered q at);
-      released = λ q. ap (λ spots. count_by (λ (s : Spot). is_free_in q s.product s.out) spots) c.in_ok-push.ensures.items ∙ pushed_count (λ (s : Spot). is_free_in q s.product s.out) (λ (t : Purchase). is_free_in q t.product t.out) c.loop-purchase.spots.items purchases i _ c.purchase-item.result (omega arith) c.purchase-item.is (ap₂ (is_free_in q) c.spot_of.ensures.product c.spot_of.ensures.out) (c.loop-purchase.invariant.released q);
+      here = λ q.
+          ap (λ l. count_by (λ (s : Spot). is_in q s.product) l) c.in_ok-push.ensures.items
+          ∙ pushed_count (λ (s : Spot). is_in q s.product) (λ (t : Purchase). is_in q t.product) spots purchases i _ c.purchase-item.result (omega arith) c.purchase-item.is (ap (is_in q) c.spot_of.ensures.product) (c.loop-purchase.invariant.here q);
+      covered = λ q at.
+          ap (λ l. count_by (λ (s : Spot). blocks_if at q (option_copied s.voucher)) l) c.in_ok-push.ensures.items
+          ∙ pushed_count (λ (s : Spot). blocks_if at q (option_copied s.voucher)) (λ (t : Purchase). is_covered_by (rows_of c.args.overlay.now) at q t.voucher) spots purchases i _ c.purchase-item.result (omega arith) c.purchase-item.is (c.spot_of.ensures.covered q at) (c.loop-purchase.invariant.covered q at);
+      released = λ q.
+          ap (λ l. count_by (λ (s : Spot). is_free_in q s.product s.out) l) c.in_ok-push.ensures.items
+          ∙ pushed_count (λ (s : Spot). is_free_in q s.product s.out) (λ (t : Purchase). is_free_in q t.product t.out) spots purchases i _ c.purchase-item.result (omega arith) c.purchase-item.is (ap₂ (is_free_in q) c.spot_of.ensures.product c.spot_of.ensures.out) (c.loop-purchase.invariant.released q);
     }
 
 pub returns-clause-here : goal.returns-clause-here

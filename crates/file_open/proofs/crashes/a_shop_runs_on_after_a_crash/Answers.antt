@@ -1,9 +1,9 @@
 use Rattle.std.proofs.Common.{[], ◌++◌, ◌∷◌, map, refl}
 use Rattle.sqlite.specs.Held.{state}
 use Rattle.file_tables.proofs.Told.{one_shop}
-use Rattle.file_tables.specs.Shops.{reordered}
-use Rattle.office_deliveries.specs.Shops.{stood}
-use Rattle.office_deliveries.specs.Histories.{Crashed, opened}
+use Rattle.file_tables.specs.Shops.{holds_reordered}
+use Rattle.office_deliveries.specs.Shops.{shop_after}
+use Rattle.office_deliveries.specs.Histories.{Crashed, running_from}
 use Rattle.office_deliveries.proofs.Crashes.{come_from_opening, happens_on}
 use Rattle.office_deliveries.proofs.Running.{reopened}
 use Rattle.file_open.proofs.Again.{found_known}
@@ -30,11 +30,11 @@ returns-clause-house g c = λ house of found z o.
 
 pub returns-clause-runs : goal.returns-clause-runs
 returns-clause-runs g c = λ words s r running found z o.
-    reopened _ _ (λ t a ks js held more. reordered _ _ _ a ks js held more) words c.args.before.now c.args.after.now s _ r running (returns-clause-reopened g c found z o)
+    reopened _ _ (λ t a ks js held more. holds_reordered _ _ _ a ks js held more) words c.args.before.now c.args.after.now s _ r running (returns-clause-reopened g c found z o)
 
 pub returns-clause-stands : goal.returns-clause-stands
 returns-clause-stands g c = λ words p events s r happened running found z o.
     let again = returns-clause-runs g c words s r running found z o in
-    let first = opened words (stood words p []) in
-    let more = happens_on words first events (Crashed ∷ []) r (opened words again.0) happened (again.0, again.1, refl) in
-    (again.0, more, again.2, come_from_opening words p (events ++ Crashed ∷ []) (opened words again.0) more)
+    let first = running_from words (shop_after words p []) in
+    let more = happens_on words first events (Crashed ∷ []) r (running_from words again.0) happened (again.0, again.1, refl) in
+    (again.0, more, again.2, come_from_opening words p (events ++ Crashed ∷ []) (running_from words again.0) more)

@@ -5,7 +5,7 @@ use Rattle.sqlite.specs.Effect.{Database}
 use Rattle.sqlite.specs.Held.{state}
 use Rattle.sqlite.specs.State.{Shown, Begins}
 use Rattle.file_schema.specs.Tables.{schema}
-use Rattle.file_schema.specs.Parts.{shown}
+use Rattle.file_schema.specs.Parts.{row_shown}
 use Rattle.file_reads.specs.Damage.{HasMeaning, HasNoMeaning, IsDamaged}
 use Rattle.file_reads.proofs.Loads.{loads}
 use Rattle.file_reads.proofs.Causes.{means_something, unread_for}
@@ -30,7 +30,7 @@ returns-in-Ok-taken g c = record {
       let same : map g.T.Loaded.as_row c.each_row.new.taker.all.items ≡ all.rows = ap (map g.T.Loaded.as_row) (it.behind ∙ ap (λ l. l ++ it.more) none) ∙ it.values in
       let has : old.now.schema ≡ db.schema = ap (λ (d : Database). d.schema) at.now in
       let told = loads g.T.Loaded.text g.T.Loaded.tree (c.statement.ensures.select db.schema known) old new has all.rows (subst (λ t. Shown t [] old new all.rows) c.statement.ensures.text (all.shown clean)) in
-      subst (λ (d : Database). IsPermutation (map g.T.Loaded.as_row c.each_row.new.taker.all.items) (map (shown schema g.T.Loaded.tree) (d.trees g.T.Loaded.tree))) at.now (subst (λ l. IsPermutation l (map (shown schema g.T.Loaded.tree) (old.now.trees g.T.Loaded.tree))) (sym same) told);
+      subst (λ (d : Database). IsPermutation (map g.T.Loaded.as_row c.each_row.new.taker.all.items) (map (row_shown schema g.T.Loaded.tree) (d.trees g.T.Loaded.tree))) at.now (subst (λ l. IsPermutation l (map (row_shown schema g.T.Loaded.tree) (old.now.trees g.T.Loaded.tree))) (sym same) told);
   limits =
       let all = rw c.in-Ok-taken.is at c.in-Ok.ensures.whole in
       let it = gathers (λ k. k.all.items) g.T.Loaded.as_row g.T.Loaded.fits _ _ all.rows all.took in
@@ -60,8 +60,8 @@ returns-in-Err-taken g c = record {
       let some = rw c.in-Err-taken.is at c.in-Ok.ensures.stopped in
       let text = c.statement.ensures.text in
       let front = subst (λ t. Begins t [] old (some.rows ++ some.row ∷ [])) text (some.front clean) in
-      let why : ((w : g.row.T.Denot) → g.T.Loaded.fits w → some.row ≢ g.T.Loaded.as_row w) → IsSince g.T.Loaded.since db.schema → IsDamaged g.T.Loaded.as_row g.T.Loaded.fits (map (shown schema g.T.Loaded.tree) (db.trees g.T.Loaded.tree)) = λ bad known.
-      subst (λ (d : Database). IsDamaged g.T.Loaded.as_row g.T.Loaded.fits (map (shown schema g.T.Loaded.tree) (d.trees g.T.Loaded.tree))) at.now
+      let why : ((w : g.row.T.Denot) → g.T.Loaded.fits w → some.row ≢ g.T.Loaded.as_row w) → IsSince g.T.Loaded.since db.schema → IsDamaged g.T.Loaded.as_row g.T.Loaded.fits (map (row_shown schema g.T.Loaded.tree) (db.trees g.T.Loaded.tree)) = λ bad known.
+      subst (λ (d : Database). IsDamaged g.T.Loaded.as_row g.T.Loaded.fits (map (row_shown schema g.T.Loaded.tree) (d.trees g.T.Loaded.tree))) at.now
       (damaged_in g.T.Loaded.as_row g.T.Loaded.fits g.T.Loaded.text g.T.Loaded.tree (c.statement.ensures.select db.schema known) old (ap (λ (d : Database). d.schema) at.now) at.is_open some.rows some.row front bad) in
       unread_for (HasNoMeaning db.schema g.T.Loaded.text) _ _ why _ some.stopped;
   store = λ clean db at known.

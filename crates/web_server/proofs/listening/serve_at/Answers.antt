@@ -22,7 +22,7 @@ pub returns-in-Err-clause-said : goal.returns-in-Err-clause-said
 returns-in-Err-clause-said g c =
     let old : Page = record { taken = g.W.Drain.taken c.args.writer.now; failures = g.W.Drain.failures c.args.writer.now } in
     let new : Page = record { taken = g.W.Drain.taken c.say.new.writer; failures = g.W.Drain.failures c.say.new.writer } in
-    says_listening _ _ old new (Err c.in-Err.refused) _ c.as_bytes.ensures.value c.in-Err.ensures c.said.ensures
+    says_listening _ _ old new (Err c.in-Err.refused) _ c.as_bytes.ensures.value c.in-Err.ensures c.end_said.ensures
 
 pub returns-in-Err-clause-leads : goal.returns-in-Err-clause-leads
-returns-in-Err-clause-leads g c = rw c.said.ensures (answers_unsaid (AtTick (IsRead g.R.System.shows g.R.System.gives) g.D.Desk.serves) _ _ _ refl)
+returns-in-Err-clause-leads g c = rw c.end_said.ensures (answers_unsaid (AtTick (IsRead g.R.System.shows g.R.System.gives) g.D.Desk.serves) _ _ _ refl)

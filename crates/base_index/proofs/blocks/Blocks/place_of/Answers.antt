@@ -34,7 +34,8 @@ returns-clause-absent c =
     let lt : block < length a.chain = omega (arith, c.block_for-block.ensures.within) in
     let order : AreInOrder (λ n. n) (concat a.chain) = subst (λ (t : Table ℕ). AreInOrder (λ n. n) t.rows) (sym c.self.view_is) c.requires in
     rw (← c.self.view_is)
-    (when_err (λ p. (start_of block a.chain ≤ p) × IsGap (λ n. n) (get_or a.chain block []) c.args.entry (p - start_of block a.chain)) (λ p. IsGap (λ n. n) (concat a.chain) c.args.entry p) c.place_in.result (λ p h. gap_whole a.chain a.last a.room c.self.invariant block p c.args.entry order last c.block_for-block.ensures.within c.block_for-block.ensures.from c.block_for-block.ensures.before h.0 h.1) c.place_in.ensures.absent)
+    (when_err (λ p. (start_of block a.chain ≤ p) × IsGap (λ n. n) (get_or a.chain block []) c.args.entry (p - start_of block a.chain)) (λ p. IsGap (λ n. n) (concat a.chain) c.args.entry p)
+    c.place_in.result (λ p h. gap_whole a.chain a.last a.room c.self.invariant block p c.args.entry order last c.block_for-block.ensures.within c.block_for-block.ensures.from c.block_for-block.ensures.before h.0 h.1) c.place_in.ensures.absent)
 
 pub returns-clause-few : goal.returns-clause-few
 returns-clause-few c =

@@ -16,4 +16,6 @@ invariant_of-self-2 c =
     let noted = sym c.is_err.ensures.value ∙ c.if-is_err.false in
     let row_is = when_ok _ c.note.result noted c.note.ensures.last in
     let befores_is = when_ok _ c.note.result noted c.note.ensures.earlier in
-    pushed old.changes.items old.tables old.before.items old.counts c.args.change c.number-table.result c.id_of-id.result c.len-place.result row row (place_in c.id_of-id.result (get_or old.tables c.number-table.result row)) c.note.new.touched c.push.new.self.items c.note.new.before.items (with_one_more c.number-table.result old.counts) c.self.invariant (c.number-table.ensures.value ∙ c.table_of.ensures) c.number-table.ensures.within c.id_of-id.ensures place_is refl row_is c.in_ok-push.ensures.items befores_is refl
+    pushed old.changes.items old.tables old.before.items old.counts c.args.change c.number-table.result c.id_of-id.result c.len-place.result row row (place_in c.id_of-id.result (get_or old.tables c.number-table.result row))
+    c.note.new.touched c.push.new.self.items c.note.new.before.items (with_one_more c.number-table.result old.counts) c.self.invariant (c.number-table.ensures.value ∙ c.table_of.ensures) c.number-table.ensures.within c.id_of-id.ensures
+    place_is refl row_is c.in_ok-push.ensures.items befores_is refl

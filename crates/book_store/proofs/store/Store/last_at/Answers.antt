@@ -5,16 +5,16 @@ use Rattle.model_rows.specs.declared.passages.Passage.{Passage}
 use Rattle.model_rows.specs.Conditions.{names}
 use Rattle.model_rows.specs.Passages.{last_after}
 use Rattle.book_indexes.specs.Keys.{checkin_keys}
-use Rattle.book_store.specs.Walks.{listed, rows_of}
+use Rattle.book_store.specs.Walks.{row_as_list, rows_of}
 use Rattle.book_store.proofs.Listed.{rows_next, rows_end, rows_found}
 use Rattle.book_store.proofs.store.Store.last_at.Goals as goal
 
 -- one check-in and the others after it
-one_first : (last : Option Passage) (o : Option Checkin) (rest : List Checkin) → last_after (last_after last (listed o)) rest ≡ last_after last (listed o ++ rest)
+one_first : (last : Option Passage) (o : Option Checkin) (rest : List Checkin) → last_after (last_after last (row_as_list o)) rest ≡ last_after last (row_as_list o ++ rest)
 one_first last None rest = refl
 one_first last (Some c) rest = refl
 
-one_more : (rows : List Checkin) (ids : List ℕ) (i x : ℕ) (last now all : Option Passage) → last_after last (rows_of (λ r. r.id) (drop i ids) rows) ≡ all → i < length ids → ((d : ℕ) → get_or ids i d ≡ x) → now ≡ last_after last (listed (row_at (λ r. r.id) x rows)) → last_after now (rows_of (λ r. r.id) (drop (i + 1) ids) rows) ≡ all
+one_more : (rows : List Checkin) (ids : List ℕ) (i x : ℕ) (last now all : Option Passage) → last_after last (rows_of (λ r. r.id) (drop i ids) rows) ≡ all → i < length ids → ((d : ℕ) → get_or ids i d ≡ x) → now ≡ last_after last (row_as_list (row_at (λ r. r.id) x rows)) → last_after now (rows_of (λ r. r.id) (drop (i + 1) ids) rows) ≡ all
 one_more rows ids i x last now all left lt at is =
     let rest : List Checkin = rows_of (λ r. r.id) (drop (i + 1) ids) rows in
     ap (λ (l : Option Passage). last_after l rest) is

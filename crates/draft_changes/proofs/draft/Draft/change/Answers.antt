@@ -3,7 +3,7 @@ use Rattle.std.specs.Result.{is_err}
 use Rattle.model_catalogue.specs.declared.rows.Quota.{Quota}
 use Rattle.model_catalogue.specs.CatalogueLists.{CatalogueLists}
 use Rattle.model_rows.specs.Lists.{Lists}
-use Rattle.model_rows.specs.Change.{changed}
+use Rattle.model_rows.specs.Change.{change_applied}
 use Rattle.draft_deltas.specs.Logs.{Log, rows_of}
 use Rattle.draft_deltas.proofs.Logs.{when_ok}
 use Rattle.draft_deltas.specs.Tallied.{IsNext}
@@ -77,4 +77,4 @@ returns-clause-ok g c =
     let draft : DraftState = record { log = inside.overlay; next = inside.next; moment = inside.moment } in
     ap (λ (log : Log). now (record { log = log; next = inside.next; moment = inside.moment })) (when_ok _ c.push.result (sym c.is_err.ensures.value ∙ c.if-is_err.false) c.push.ensures.ok)
     ∙ now-with_change draft c.args.change
-    ∙ ap (λ (d : DraftState). changed c.args.change (now d)) c.self.view_is
+    ∙ ap (λ (d : DraftState). change_applied c.args.change (now d)) c.self.view_is

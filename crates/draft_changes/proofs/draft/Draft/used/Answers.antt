@@ -3,7 +3,7 @@ use Rattle.model_catalogue.specs.CatalogueLists.{CatalogueLists, quota_at}
 use Rattle.draft_deltas.specs.Logs.{Log, rows_of}
 use Rattle.draft_deltas.proofs.Logs.{sales_catalogue}
 use Rattle.draft_changes.specs.DraftState.{DraftState, now}
-use Rattle.draft_changes.specs.Used.{used}
+use Rattle.draft_changes.specs.Used.{places_used}
 use Rattle.draft_changes.proofs.draft.Draft.used.Goals as goal
 
 pub used-requires : goal.used-requires
@@ -16,8 +16,8 @@ used-requires g c =
     ∙ c.requires
 
 pub returns : goal.returns
-unfolding used
+unfolding places_used
 returns g c =
     c.used.ensures
-    ∙ ap (λ (l : Log). used (rows_of l) c.weighing.result.at c.args.quota.now) c.weighing.ensures.overlay
-    ∙ ap (λ n. used (now c.args.self.now).lists n c.args.quota.now) c.weighing.ensures.at
+    ∙ ap (λ (l : Log). places_used (rows_of l) c.weighing.result.at c.args.quota.now) c.weighing.ensures.overlay
+    ∙ ap (λ n. places_used (now c.args.self.now).lists n c.args.quota.now) c.weighing.ensures.at

@@ -6,7 +6,7 @@ use Rattle.book_tally.specs.Amounts.{nothing}
 use Rattle.book_tally.proofs.Earlier.{same_at_mark}
 use Rattle.draft_deltas.specs.Counts.{value_at}
 use Rattle.draft_changes.specs.Least.{found_at}
-use Rattle.draft_changes.specs.Used.{used, raised}
+use Rattle.draft_changes.specs.Used.{places_used, usage_raised}
 use Rattle.draft_changes.proofs.Overs.{untouched, least_start, least_end, within_over}
 use Rattle.draft_changes.proofs.over.Weighing.least_over.Goals as goal
 
@@ -21,8 +21,8 @@ loop-i-init g c =
     (λ place lt.
     let come = same_at_mark nothing (λ r. r.come) counts w.mark place w.within lt in
     let gone = same_at_mark nothing (λ r. r.gone) counts w.mark place w.within lt in
-    let same : value_at 0 (used before at) log.base.catalogue.quotas place ≡ value_at 0 (used (rows_of log) at) log.base.catalogue.quotas place = omega (arith, w.counted place, w.counted_before place, ap₂ raised come gone, ap₂ raised gone come) in
-    untouched before (rows_of log) at w.own.now w.quotas.now place (subst (λ (qs : List Quota). value_at 0 (used before at) qs place ≡ value_at 0 (used (rows_of log) at) qs place) (sym w.sold) same))
+    let same : value_at 0 (places_used before at) log.base.catalogue.quotas place ≡ value_at 0 (places_used (rows_of log) at) log.base.catalogue.quotas place = omega (arith, w.counted place, w.counted_before place, ap₂ usage_raised come gone, ap₂ usage_raised gone come) in
+    untouched before (rows_of log) at w.own.now w.quotas.now place (subst (λ (qs : List Quota). value_at 0 (places_used before at) qs place ≡ value_at 0 (places_used (rows_of log) at) qs place) (sym w.sold) same))
 
 pub returns-clause-within : goal.returns-clause-within
 returns-clause-within g c =

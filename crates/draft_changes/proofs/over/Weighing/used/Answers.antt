@@ -5,7 +5,7 @@ use Rattle.model_catalogue.specs.declared.rows.Quota.{Quota}
 use Rattle.model_catalogue.specs.CatalogueLists.{CatalogueLists}
 use Rattle.model_rows.specs.Lists.{Lists}
 use Rattle.draft_deltas.specs.Logs.{rows_of}
-use Rattle.draft_changes.specs.Used.{used, raised}
+use Rattle.draft_changes.specs.Used.{places_used, usage_raised}
 use Rattle.draft_changes.proofs.Standing.{value_there}
 use Rattle.draft_changes.proofs.over.Weighing.used.Goals as goal
 
@@ -22,9 +22,9 @@ returns-in-Ok g c =
     let found : Some (get_or quotas place quota) ≡ Some quota =
     sym (row_at_place (λ (q : Quota). q.id) 0 quotas quota.id place quota sorted c.in-Ok.ensures.found) ∙ ap (λ (l : List Quota). row_at (λ q. q.id) quota.id l) w.sold ∙ c.requires in
     let here : get_or quotas place quota ≡ quota = cc found in
-    let base : c.base_of.result ≡ used log.base w.at quota = c.base_of.ensures.value quota ∙ ap (used log.base w.at) here in
-    let value = λ (l : Lists). value_there (used l w.at) quotas log.base.catalogue.quotas place quota w.sold c.in-Ok.ensures.found.in_range (sym here) in
-    omega (arith, w.counted place, value (rows_of log), value log.base, base, c.moved.ensures, ap₂ raised c.of-count.ensures.come c.of-count.ensures.gone, ap₂ raised c.of-count.ensures.gone c.of-count.ensures.come)
+    let base : c.base_of.result ≡ places_used log.base w.at quota = c.base_of.ensures.value quota ∙ ap (places_used log.base w.at) here in
+    let value = λ (l : Lists). value_there (places_used l w.at) quotas log.base.catalogue.quotas place quota w.sold c.in-Ok.ensures.found.in_range (sym here) in
+    omega (arith, w.counted place, value (rows_of log), value log.base, base, c.moved.ensures, ap₂ usage_raised c.of-count.ensures.come c.of-count.ensures.gone, ap₂ usage_raised c.of-count.ensures.gone c.of-count.ensures.come)
 
 pub returns-in-Err : goal.returns-in-Err
 returns-in-Err g c =

@@ -10,7 +10,7 @@ invariant_of-self-else-is_err g c =
     let log = c.self.inside.log in
     let before = c.self.invariant in
     let is = subst (λ (log : Log). IsSale c.args.change (rows_of log)) (sym c.self.view_is) c.requires in
-    let pushed = when_ok _ c.push-else-count-eq4294967296.result (sym c.is_err.ensures.value ∙ c.if-is_err.false) c.push-else-count-eq4294967296.ensures.ok in
+    let pushed = when_ok _ c.push-else-count-eq-MOST_CHANGES.result (sym c.is_err.ensures.value ∙ c.if-is_err.false) c.push-else-count-eq-MOST_CHANGES.ensures.ok in
     rw (pushed, c.in_ok-push.ensures.ok)
     (record {
       few = omega (arith, before.few, c.len-count.ensures, length-append log (c.args.change ∷ []));

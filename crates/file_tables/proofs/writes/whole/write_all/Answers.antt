@@ -2,7 +2,7 @@ use Rattle.std.proofs.Common.{◌≡◌, ◌∙◌, ◌+◌, arith, ap, rules}
 use Rattle.sqlite.specs.Held.{state}
 use Rattle.sqlite.specs.State.{HasCleanDisk}
 use Rattle.file_rows.specs.Changes.{ChangesFit}
-use Rattle.model_answers.specs.ShopView.{listed}
+use Rattle.model_answers.specs.ShopView.{kept_listed}
 use Rattle.file_meaning.specs.Free.{IsFree}
 use Rattle.file_meaning.specs.Made.{next_by}
 use Rattle.file_tables.specs.Steps.{next_each}
@@ -31,5 +31,5 @@ returns-in-Some g c = record {
       let e = c.in_ok-write_answer.ensures.written clean (inside_fit _ _ s3 s4 d) in
       let is = b.0 ∙ same_next changes from in
       let sum : c.in-Some.free ≡ number + 1 = search rules in
-      (sum ∙ ap (λ n. n + 1) is, all_written c.args.shop.now changes c.args.counts.now from number c.args.at (listed c.args.kept) s0 s2 s3 s4 s5 is a b.1 d e);
+      (sum ∙ ap (λ n. n + 1) is, all_written c.args.shop.now changes c.args.counts.now from number c.args.at (kept_listed c.args.kept) s0 s2 s3 s4 s5 is a b.1 d e);
 }

@@ -6,4 +6,4 @@ pub returns-in-Ok-clause-said : goal.returns-in-Ok-clause-said
 returns-in-Ok-clause-said g c = says_listening _ _ _ _ (Ok c.in-Ok.field-0) _ c.as_bytes.ensures.value c.in-Ok.ensures tt
 
 pub returns-in-Err-clause-said : goal.returns-in-Err-clause-said
-returns-in-Err-clause-said g c = says_listening _ _ _ _ (Err c.in-Err.refused) _ c.as_bytes.ensures.value c.in-Err.ensures c.said.ensures
+returns-in-Err-clause-said g c = says_listening _ _ _ _ (Err c.in-Err.refused) _ c.as_bytes.ensures.value c.in-Err.ensures c.end_said.ensures

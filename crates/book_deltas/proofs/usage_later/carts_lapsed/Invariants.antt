@@ -2,7 +2,7 @@ use Rattle.std.proofs.Common.{◌≡◌, ◌≤◌, ◌+◌, take, sum_by}
 use Rattle.model_rows.specs.Lists.{cart_at}
 use Rattle.model_rows.specs.Usage.{cart_counts}
 use Rattle.book_store.specs.Walks.{one_if}
-use Rattle.book_deltas.proofs.usage_later.lapsed.Given as goal
+use Rattle.book_deltas.proofs.usage_later.carts_lapsed.Given as goal
 
 abbrev pub invariant-loop-place : goal.invariant-loop-place
 invariant-loop-place g l = record {

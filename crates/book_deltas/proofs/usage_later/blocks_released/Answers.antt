@@ -7,7 +7,7 @@ use Rattle.book_deltas.specs.Later.{release_if, free_if, naming_if}
 use Rattle.book_indexes.proofs.EntryLemmas.{found_count}
 use Rattle.book_deltas.proofs.Walked.{one_found, found_more, walked, taken}
 use Rattle.book_deltas.proofs.Later.{stands_at}
-use Rattle.book_deltas.proofs.usage_later.released.Goals as goal
+use Rattle.book_deltas.proofs.usage_later.blocks_released.Goals as goal
 
 pub release_of-release-requires-clause-stands : goal.release_of-release-requires-clause-stands
 release_of-release-requires-clause-stands g c =

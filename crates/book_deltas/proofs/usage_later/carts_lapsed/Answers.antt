@@ -7,7 +7,7 @@ use Rattle.model_rows.specs.CameDue.{is_due_cart}
 use Rattle.book_store.specs.Walks.{one_if}
 use Rattle.book_indexes.proofs.EntryLemmas.{found_count}
 use Rattle.book_deltas.proofs.Walked.{one_found, walked, lapsed_walk}
-use Rattle.book_deltas.proofs.usage_later.lapsed.Goals as goal
+use Rattle.book_deltas.proofs.usage_later.carts_lapsed.Goals as goal
 
 pub returns-clause-value : goal.returns-clause-value
 returns-clause-value g c =

@@ -1,7 +1,7 @@
 use Rattle.std.proofs.Common.{◌≡◌, ◌≤◌, ◌+◌, ◌*◌, take, sum_by}
 use Rattle.model_rows.specs.Lists.{voucher_at}
 use Rattle.book_deltas.specs.Later.{release_if, free_if, naming_if}
-use Rattle.book_deltas.proofs.usage_later.released.Given as goal
+use Rattle.book_deltas.proofs.usage_later.blocks_released.Given as goal
 
 abbrev pub invariant-loop-place : goal.invariant-loop-place
 invariant-loop-place g l = record {
