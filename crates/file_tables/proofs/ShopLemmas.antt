@@ -30,7 +30,7 @@ use Rattle.file_tables.specs.Shops.{Keeps, HoldsWhileOpen, Tells, Knows, KnowsWh
 
 -- the trees of a database over our schema list it
 pub declared : (db : Database) (trees : Trees) → IsDatabase db → db.schema ≡ schema → trees ≡ db.trees → AreDeclared trees
-declared db trees kept_listed known same = subst (λ (t : Trees). AreDeclared t) (sym same) (subst (λ (s : Schema). IsDatabase (record { schema = s; trees = db.trees })) known kept_listed)
+declared db trees listed known same = subst (λ (t : Trees). AreDeclared t) (sym same) (subst (λ (s : Schema). IsDatabase (record { schema = s; trees = db.trees })) known listed)
 
 -- ---- nothing changed
 

@@ -110,4 +110,4 @@ HasReason _ kind = ⊥
 
 -- an error says that there is no memory, or why the line asks for nothing
 abbrev pub IsReason : Asked → ErrorKind → Type 0
-IsReason asked_for kind = (kind ≡ OutOfMemory) ⊎ HasReason asked_for kind
+IsReason asked kind = (kind ≡ OutOfMemory) ⊎ HasReason asked kind
