@@ -19,6 +19,7 @@ use book_deltas::spends::spent_in;
 use book_deltas::turns::redeemed_in;
 use book_deltas::usage_later::later;
 use book_settle::again::count_again;
+use book_settle::counted::Counted;
 use book_settle::settle::settle;
 use book_settle::spared::spare_used;
 use book_store::{Ended, Store};
@@ -33,10 +34,7 @@ use std::sync::ledger::Ledger;
 #[derive(Drop)]
 pub struct Counters {
     store: Store,
-    usages: Vec<Usage>,
-    redeems: Vec<u64>,
-    spents: Vec<u128>,
-    holds: Vec<u64>,
+    counted: Counted,
 }
 
 impl Model for Counters {
@@ -49,12 +47,11 @@ impl Model for Counters {
 
     ghost view = { λ c. record {
       state = c.store.state;
-      room = min c.store.room (min (room_left c.usages)
-          (min (room_left c.redeems) (min (room_left c.spents) (room_left c.holds))));
+      room = min c.store.room (min (room_left c.counted.usages) (min (room_left c.counted.redeems)
+          (min (room_left c.counted.spents) (room_left c.counted.holds))));
     } };
 
-    ghost invariant = { λ c. AllCounted c.store.state c.usages.items c.redeems.items c.spents.items
-        c.holds.items };
+    ghost invariant = { λ c. AllCounted c.store.state c.counted };
 }
 
 impl Counters {
@@ -70,7 +67,7 @@ impl Counters {
         ensures value { result ≡ redeemed voucher self.now.state.lists }
         ensures few { result ≤ most_listed }
     {
-        redeemed_in(&self.store, &self.redeems, voucher)
+        redeemed_in(&self.store, &self.counted.redeems, voucher)
     }
 
     /// What is spent of the voucher's budget, in cents.
@@ -78,7 +75,7 @@ impl Counters {
         ensures value { result ≡ spent voucher self.now.state.lists }
         ensures few { result ≤ most_spent }
     {
-        spent_in(&self.store, &self.spents, voucher)
+        spent_in(&self.store, &self.counted.spents, voucher)
     }
 
     /// How many cart positions that are live at a moment name the voucher.
@@ -86,7 +83,7 @@ impl Counters {
         ensures value { result ≡ held at voucher self.now.state.lists }
         ensures few { result ≤ most_listed }
     {
-        held_by(&self.store, &self.holds, voucher, at)
+        held_by(&self.store, &self.counted.holds, voucher, at)
     }
 }
 
@@ -113,7 +110,14 @@ impl Counters {
         match place_of(catalogue.quotas(), quota.id) {
             Ok(place) => {
                 let ended = Ended::of(&self.store);
-                later(&ended, &self.redeems, quota, self.usages[place], at, steps)
+                later(
+                    &ended,
+                    &self.counted.redeems,
+                    quota,
+                    self.counted.usages[place],
+                    at,
+                    steps,
+                )
             }
             Err(_) => NOTHING,
         }
@@ -142,15 +146,7 @@ impl Counters {
         requires { weight changes.list ≤ self.old.room }
         ensures { self.new.state ≡ changes_applied changes at self.old.state }
     {
-        count_again(
-            &mut self.store,
-            &mut self.usages,
-            &mut self.redeems,
-            &mut self.spents,
-            &mut self.holds,
-            changes,
-            at,
-        );
+        count_again(&mut self.store, &mut self.counted, changes, at);
     }
 
     /// Makes exactly these changes, at a moment, and counts all again, unless nothing changes. It costs all rows: where the counts that changes
@@ -171,7 +167,7 @@ impl Counters {
     fn spares_used(&self, changes: &Changes) -> bool
         ensures { result ≡ list_all (spares_used self.now.state.lists) changes.now.list }
     {
-        spare_used(&self.store, &self.redeems, changes.as_slice())
+        spare_used(&self.store, &self.counted.redeems, changes.as_slice())
     }
 
     // Makes exactly these changes, at a moment, and puts the counts that they change. Nothing is counted.
@@ -182,16 +178,7 @@ impl Counters {
         requires spared { list_all (spares_used self.old.state.lists) changes.list ≡ true }
         ensures { self.new.state ≡ changes_applied changes at self.old.state }
     {
-        settle(
-            &mut self.store,
-            &mut self.usages,
-            &mut self.redeems,
-            &mut self.spents,
-            &mut self.holds,
-            changes,
-            counts,
-            at,
-        );
+        settle(&mut self.store, &mut self.counted, changes, counts, at);
     }
 
     /// Makes exactly these changes, at a moment, where the counts that they change are known. These are put, unless a voucher
@@ -215,10 +202,12 @@ impl Counters {
     {
         Counters {
             store: Store::new(alloc),
-            usages: Vec::new(alloc),
-            redeems: Vec::new(alloc),
-            spents: Vec::new(alloc),
-            holds: Vec::new(alloc),
+            counted: Counted {
+                usages: Vec::new(alloc),
+                redeems: Vec::new(alloc),
+                spents: Vec::new(alloc),
+                holds: Vec::new(alloc),
+            },
         }
     }
 
@@ -230,10 +219,10 @@ impl Counters {
         let Some(count) = changes.weight() else {
             return Err(AllocError);
         };
-        self.usages.reserve(count)?;
-        self.redeems.reserve(count)?;
-        self.spents.reserve(count)?;
-        self.holds.reserve(count)?;
+        self.counted.usages.reserve(count)?;
+        self.counted.redeems.reserve(count)?;
+        self.counted.spents.reserve(count)?;
+        self.counted.holds.reserve(count)?;
         self.store.reserve(count)
     }
 
@@ -241,10 +230,10 @@ impl Counters {
     fn room_left(&self) -> usize
         ensures { result ≡ self.now.room }
     {
-        let usages = self.usages.capacity() - self.usages.len();
-        let redeems = self.redeems.capacity() - self.redeems.len();
-        let spents = self.spents.capacity() - self.spents.len();
-        let holds = self.holds.capacity() - self.holds.len();
+        let usages = self.counted.usages.capacity() - self.counted.usages.len();
+        let redeems = self.counted.redeems.capacity() - self.counted.redeems.len();
+        let spents = self.counted.spents.capacity() - self.counted.spents.len();
+        let holds = self.counted.holds.capacity() - self.counted.holds.len();
         let beside = redeems.min(spents.min(holds));
         self.store.room().min(usages.min(beside))
     }

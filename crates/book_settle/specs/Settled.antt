@@ -1,6 +1,6 @@
 -- What is kept beside rows, by their ids, and some of it put.
 use Rattle.std.specs.List.{AllByRecursion}
-use Rattle.std.specs.Prelude.{◌≡◌, ◌≤◌, ℕ, ◌==◌, List, [], ◌∷◌, Vec, Option, Some, None, if◌then◌else◌}
+use Rattle.std.specs.Prelude.{◌≡◌, ◌≤◌, ◌+◌, ℕ, ◌==◌, length, List, [], ◌∷◌, Vec, Option, Some, None, if◌then◌else◌}
 use Rattle.model_catalogue.specs.declared.rows.Quota.{Quota}
 use Rattle.model_catalogue.specs.CatalogueLists.{quota_at}
 use Rattle.model_rows.specs.declared.changes.Change.{Change}
@@ -10,11 +10,13 @@ use Rattle.model_rows.specs.declared.rows.Voucher.{Voucher}
 use Rattle.model_rows.specs.Change.{after_change}
 use Rattle.model_rows.specs.Lists.{Lists, State, voucher_at}
 use Rattle.model_rows.specs.Usage.{usage_of, redeemed, spent}
+use Rattle.model_rows.specs.Weight.{change_weight}
 use Rattle.book_usage.specs.Limits.{last_use}
 use Rattle.book_deltas.specs.Beside.{AreBeside, room_left}
 use Rattle.book_deltas.specs.Held.{AreHeldNow}
 use Rattle.book_deltas.specs.Spends.{ArePriced, AreSpent}
 use Rattle.book_deltas.specs.Usages.{AreUsages, AreRedeemed}
+use Rattle.book_settle.specs.declared.counted.Counted.{Counted}
 
 -- the usage of a quota of which no place is used
 abbrev pub nothing : Usage
@@ -75,21 +77,38 @@ pub record AreSmall (lists : Lists) : Type 0 where
   pub uses : AllByRecursion (λ v. v.max_usages ≤ last_use) lists.vouchers
   pub discounts : ArePriced lists
 
+-- one value of each kind is kept beside each quota, and beside each voucher
+pub record IsOfRows (lists : Lists) (counted : Counted) : Type 0 where
+  pub usages : length counted.usages.items ≡ length lists.catalogue.quotas
+  pub redeems : length counted.redeems.items ≡ length lists.vouchers
+  pub spents : length counted.spents.items ≡ length lists.vouchers
+  pub holds : length counted.holds.items ≡ length lists.vouchers
+
 -- all that is kept beside the rows is that of the box office at its moment
-pub record AllCounted (state : State) (us : List Usage) (rs ss hs : List ℕ) : Type 0 where
+pub record AllCounted (state : State) (counted : Counted) : Type 0 where
   -- the usage of each quota
-  pub usages : AreUsages state.lists state.moment us
+  pub usages : AreUsages state.lists state.moment counted.usages.items
   -- how often each voucher is redeemed, and what is spent of its budget
-  pub redeems : AreRedeemed state.lists rs
-  pub spents : AreSpent state.lists ss
+  pub redeems : AreRedeemed state.lists counted.redeems.items
+  pub spents : AreSpent state.lists counted.spents.items
   -- how many live cart positions name it
-  pub held : AreHeldNow state hs
+  pub held : AreHeldNow state counted.holds.items
   pub small : AreSmall state.lists
 
 -- so many rows fit among those of the box office, and so many values beside them, without taking memory
-pub record AllFit {Z : Type 0} (count room : ℕ) (us : Vec Usage Z) (rs ss hs : Vec ℕ Z) : Type 0 where
+pub record AllFit (count room : ℕ) (counted : Counted) : Type 0 where
   pub rows : count ≤ room
-  pub usages : count ≤ room_left us
-  pub redeems : count ≤ room_left rs
-  pub spents : count ≤ room_left ss
-  pub holds : count ≤ room_left hs
+  pub usages : count ≤ room_left counted.usages
+  pub redeems : count ≤ room_left counted.redeems
+  pub spents : count ≤ room_left counted.spents
+  pub holds : count ≤ room_left counted.holds
+
+-- a change of the rows is made: what was kept of them is kept beside those after it, and it took no more room than the change has weight
+pub record IsCarried (change : Change) (lists : Lists) (old new : Counted) : Type 0 where
+  pub usages : KeepsQuotas change lists old.usages new.usages
+  pub redeems : KeepsVouchers 0 change lists old.redeems new.redeems
+  pub spents : KeepsVouchers 0 change lists old.spents new.spents
+  pub usages_room : room_left old.usages ≤ room_left new.usages + change_weight change
+  pub redeems_room : room_left old.redeems ≤ room_left new.redeems + change_weight change
+  pub spents_room : room_left old.spents ≤ room_left new.spents + change_weight change
+  pub holds_room : room_left old.holds ≤ room_left new.holds + change_weight change

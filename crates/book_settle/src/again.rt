@@ -3,14 +3,15 @@
 ghost use Rattle.std.specs.Prelude.{◌≡◌, ◌≤◌, ◌+◌, length};
 ghost use Rattle.model_rows.specs.Change.{after_change, after_all, changes_applied, change_applied};
 ghost use Rattle.model_rows.specs.Weight.{change_weight, weight};
-ghost use Rattle.book_settle.specs.Settled.{AllCounted, AllFit, AreSmall};
+ghost use Rattle.book_settle.specs.Settled.{AllCounted, AllFit, AreSmall, IsOfRows};
 
+use crate::counted::Counted;
 use crate::fresh::{count_holds, count_redeems, count_spents, count_usages};
 use crate::settle::stay_small;
 use base_values::Moment;
 use book_deltas::turns::vouchers;
 use book_store::Store;
-use model_rows::{Change, Changes, Usage};
+use model_rows::{Change, Changes};
 
 // Makes one change of the rows.
 fn put_row(store: &mut Store, change: Change)
@@ -43,31 +44,18 @@ fn put_rows(store: &mut Store, mut list: Vec<Change>)
 }
 
 /// Makes these changes at a moment, and counts all that is kept beside the rows afresh. It costs all rows.
-pub fn count_again(
-    store: &mut Store,
-    usages: &mut Vec<Usage>,
-    redeems: &mut Vec<u64>,
-    spents: &mut Vec<u128>,
-    holds: &mut Vec<u64>,
-    changes: Changes,
-    at: Moment,
-)
-    requires usages { length usages.old.items ≡ length store.old.state.lists.catalogue.quotas }
-    requires redeems { length redeems.old.items ≡ length store.old.state.lists.vouchers }
-    requires spents { length spents.old.items ≡ length store.old.state.lists.vouchers }
-    requires holds { length holds.old.items ≡ length store.old.state.lists.vouchers }
+pub fn count_again(store: &mut Store, counted: &mut Counted, changes: Changes, at: Moment)
+    requires same { IsOfRows store.old.state.lists counted.old }
     requires small { AreSmall store.old.state.lists }
-    requires fits { AllFit
-        (weight changes.list) store.old.room usages.old redeems.old spents.old holds.old }
+    requires fits { AllFit (weight changes.list) store.old.room counted.old }
     ensures state { store.new.state ≡ changes_applied changes at store.old.state }
-    ensures kept { AllCounted store.new.state usages.new.items redeems.new.items spents.new.items
-        holds.new.items }
+    ensures kept { AllCounted store.new.state counted.new }
 {
     let (list, next) = changes.into_parts();
     store.set(next, at);
     put_rows(store, list);
-    count_redeems(store, redeems, vouchers(store));
-    count_spents(store, spents, vouchers(store));
-    count_holds(store, holds, store.moment(), vouchers(store));
-    count_usages(store, usages, redeems);
+    count_redeems(store, &mut counted.redeems, vouchers(store));
+    count_spents(store, &mut counted.spents, vouchers(store));
+    count_holds(store, &mut counted.holds, store.moment(), vouchers(store));
+    count_usages(store, &mut counted.usages, &counted.redeems);
 }

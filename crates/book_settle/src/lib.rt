@@ -3,6 +3,7 @@
 
 pub mod again;
 mod beside;
+pub mod counted;
 mod fresh;
 pub mod settle;
 pub mod spared;

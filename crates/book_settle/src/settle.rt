@@ -15,9 +15,10 @@ ghost use Rattle.book_deltas.specs.Held.{AreHeldNow};
 ghost use Rattle.book_deltas.specs.Spends.{AreSpent};
 ghost use Rattle.book_deltas.specs.Usages.{AreUsages, AreRedeemed};
 ghost use Rattle.book_settle.specs.Spared.{spares_used};
-ghost use Rattle.book_settle.specs.Settled.{put_each, redeemed_at, spent_at, used_at, AllCounted, AllFit, ArePutsNew, AreSmall, KeepsQuotas, KeepsVouchers};
+ghost use Rattle.book_settle.specs.Settled.{put_each, redeemed_at, spent_at, used_at, AllCounted, AllFit, ArePutsNew, AreSmall, IsCarried, IsOfRows, KeepsQuotas, KeepsVouchers};
 
 use crate::beside::{keep_place, set_one};
+use crate::counted::Counted;
 use base_values::Moment;
 use book_deltas::holds::{held_by, hold_at, hold_drop, hold_put};
 use book_deltas::shift::{forget, keep};
@@ -172,69 +173,44 @@ pub(crate) fn stay_small(store: &Store, change: &Change)
 }
 
 // Makes one change of the rows, and keeps what is kept beside them.
-fn carry(
-    store: &mut Store,
-    usages: &mut Vec<Usage>,
-    redeems: &mut Vec<u64>,
-    spents: &mut Vec<u128>,
-    holds: &mut Vec<u64>,
-    change: Change,
-)
-    requires usages_same { length usages.old.items ≡ length store.old.state.lists.catalogue.quotas }
-    requires redeems_same { length redeems.old.items ≡ length store.old.state.lists.vouchers }
-    requires spents_same { length spents.old.items ≡ length store.old.state.lists.vouchers }
-    requires fits { AllFit
-        (change_weight change) store.old.room usages.old redeems.old spents.old holds.old }
-    requires held { AreHeldNow store.old.state holds.old.items }
+fn carry(store: &mut Store, counted: &mut Counted, change: Change)
+    requires same { IsOfRows store.old.state.lists counted.old }
+    requires fits { AllFit (change_weight change) store.old.room counted.old }
+    requires held { AreHeldNow store.old.state counted.old.holds.items }
     requires small { AreSmall store.old.state.lists }
-    ensures small { AreSmall (after_change change store.old.state.lists) }
-    ensures held { AreHeldNow (change_applied change store.old.state) holds.new.items }
-    ensures holds_room { room_left holds.old ≤ room_left holds.new + change_weight change }
     ensures state { store.new.state ≡ change_applied change store.old.state }
-    ensures usages { KeepsQuotas change store.old.state.lists usages.old usages.new }
-    ensures redeems { KeepsVouchers 0 change store.old.state.lists redeems.old redeems.new }
-    ensures spents { KeepsVouchers 0 change store.old.state.lists spents.old spents.new }
     ensures room { store.old.room ≤ store.new.room + change_weight change }
-    ensures usages_room { room_left usages.old ≤ room_left usages.new + change_weight change }
-    ensures redeems_room { room_left redeems.old ≤ room_left redeems.new + change_weight change }
-    ensures spents_room { room_left spents.old ≤ room_left spents.new + change_weight change }
+    ensures kept { IsCarried change store.old.state.lists counted.old counted.new }
+    ensures held { AreHeldNow (change_applied change store.old.state) counted.new.holds.items }
+    ensures small { AreSmall (after_change change store.old.state.lists) }
 {
     stay_small(store, &change);
-    keep_usages(store, usages, &change);
-    keep_beside(store, redeems, &change, 0);
-    keep_beside(store, spents, &change, 0);
-    keep_holds(store, holds, &change);
+    keep_usages(store, &mut counted.usages, &change);
+    keep_beside(store, &mut counted.redeems, &change, 0);
+    keep_beside(store, &mut counted.spents, &change, 0);
+    keep_holds(store, &mut counted.holds, &change);
     store.apply_one(change);
 }
 
 // Makes these changes of the rows in order, and keeps what is kept beside them: the usages are those at an earlier moment.
-fn carry_all(
-    store: &mut Store,
-    usages: &mut Vec<Usage>,
-    redeems: &mut Vec<u64>,
-    spents: &mut Vec<u128>,
-    holds: &mut Vec<u64>,
-    from: Moment,
-    mut list: Vec<Change>,
-)
-    requires usages { AreUsages store.old.state.lists from usages.old.items }
-    requires redeems { AreRedeemed store.old.state.lists redeems.old.items }
-    requires spents { AreSpent store.old.state.lists spents.old.items }
-    requires held { AreHeldNow store.old.state holds.old.items }
+fn carry_all(store: &mut Store, counted: &mut Counted, from: Moment, mut list: Vec<Change>)
+    requires usages { AreUsages store.old.state.lists from counted.old.usages.items }
+    requires redeems { AreRedeemed store.old.state.lists counted.old.redeems.items }
+    requires spents { AreSpent store.old.state.lists counted.old.spents.items }
+    requires held { AreHeldNow store.old.state counted.old.holds.items }
     requires small { AreSmall store.old.state.lists }
     requires new { ArePutsNew (redeemed_at store.old.state) list.items store.old.state.lists }
     requires unspent { ArePutsNew (spent_at store.old.state) list.items store.old.state.lists }
-    requires fits { AllFit
-        (weight list.items) store.old.room usages.old redeems.old spents.old holds.old }
+    requires fits { AllFit (weight list.items) store.old.room counted.old }
     ensures state { store.new.state
         ≡ record store.old.state { lists = after_all list.items store.old.state.lists } }
     ensures usages { AreBeside (λ q. q.id) (used_at (record store.old.state { moment = from }))
-        store.new.state.lists.catalogue.quotas usages.new.items }
+        store.new.state.lists.catalogue.quotas counted.new.usages.items }
     ensures redeems { AreBeside (λ v. v.id) (redeemed_at store.old.state)
-        store.new.state.lists.vouchers redeems.new.items }
+        store.new.state.lists.vouchers counted.new.redeems.items }
     ensures spents { AreBeside (λ v. v.id) (spent_at store.old.state)
-        store.new.state.lists.vouchers spents.new.items }
-    ensures held { AreHeldNow store.new.state holds.new.items }
+        store.new.state.lists.vouchers counted.new.spents.items }
+    ensures held { AreHeldNow store.new.state counted.new.holds.items }
     ensures small { AreSmall store.new.state.lists }
 {
     let _ = from;
@@ -243,7 +219,7 @@ fn carry_all(
     catalogue.known();
     list.reverse();
     while let Some(change) = list.pop() {
-        carry(store, usages, redeems, spents, holds, change);
+        carry(store, counted, change);
     }
 }
 
@@ -253,37 +229,31 @@ fn carry_all(
 /// such a one would be lost.
 pub fn settle(
     store: &mut Store,
-    usages: &mut Vec<Usage>,
-    redeems: &mut Vec<u64>,
-    spents: &mut Vec<u128>,
-    holds: &mut Vec<u64>,
+    counted: &mut Counted,
     changes: Changes,
     counts: &CountRows,
     at: Moment,
 )
     requires moment { store.old.state.moment ≤ at }
-    requires kept { AllCounted store.old.state usages.old.items redeems.old.items spents.old.items
-        holds.old.items }
+    requires kept { AllCounted store.old.state counted.old }
     requires counts { counts.now ≡ counts_of_changes changes at store.old.state }
     requires spared { list_all (spares_used store.old.state.lists) changes.list ≡ true }
-    requires fits { AllFit
-        (weight changes.list) store.old.room usages.old redeems.old spents.old holds.old }
+    requires fits { AllFit (weight changes.list) store.old.room counted.old }
     ensures state { store.new.state ≡ changes_applied changes at store.old.state }
-    ensures kept { AllCounted store.new.state usages.new.items redeems.new.items spents.new.items
-        holds.new.items }
+    ensures kept { AllCounted store.new.state counted.new }
 {
     store.known();
     let old = store.catalogue();
     old.known();
     let (list, next) = changes.into_parts();
     let from = store.moment();
-    hold_at(store, holds, at);
+    hold_at(store, &mut counted.holds, at);
     store.set(next, at);
-    carry_all(store, usages, redeems, spents, holds, from, list);
+    carry_all(store, counted, from, list);
     store.known();
     let catalogue = store.catalogue();
     catalogue.known();
-    set_usages(catalogue.quotas(), usages, counts.quotas());
-    set_redeems(vouchers(store), redeems, counts.vouchers());
-    set_spents(vouchers(store), spents, counts.vouchers());
+    set_usages(catalogue.quotas(), &mut counted.usages, counts.quotas());
+    set_redeems(vouchers(store), &mut counted.redeems, counts.vouchers());
+    set_spents(vouchers(store), &mut counted.spents, counts.vouchers());
 }

@@ -10,6 +10,7 @@ ghost use Rattle.book_tally.specs.Amounts.{nothing};
 ghost use Rattle.draft_deltas.specs.Counts.{IsMore};
 ghost use Rattle.draft_deltas.specs.Shift.{once, is_free_in, checkin_come, checkin_gone};
 
+use crate::basis::Basis;
 use crate::share::{Share, Shares, count_each};
 use crate::touched::touch_product;
 use book_tally::{Amount, Tally};
@@ -70,34 +71,32 @@ fn exited(is: bool) -> Usage
 
 /// Counts a new check-in, where its position is of a paid order and goes out with it or comes back.
 pub fn with_checkin<B: Book>(
-    overlay: &Overlay<'_, B>,
-    alloc: Global,
-    catalogue: &Catalogue,
+    basis: &Basis<'_, '_, B>,
     counts: &mut Tally<Usage>,
     row: &Checkin,
 ) -> Result<(), AllocError>
-    requires new { checkin_at row.now.id (rows_of overlay.now) ≡ None }
+    requires new { checkin_at row.now.id (rows_of basis.now.overlay.now) ≡ None }
     ensures more { OnOk result (IsMore
-        (checkin_come (rows_of overlay.now) row.now)
-        (checkin_gone (rows_of overlay.now) row.now)
-        catalogue.now.lists.quotas counts.old counts.new) }
+        (checkin_come (rows_of basis.now.overlay.now) row.now)
+        (checkin_gone (rows_of basis.now.overlay.now) row.now)
+        basis.now.catalogue.now.lists.quotas counts.old counts.new) }
     ensures err { OnErr result (counts.new ≡ counts.old) }
 {
-    let Some(position) = overlay.position(row.position) else {
+    let Some(position) = basis.overlay.position(row.position) else {
         return Ok(());
     };
-    if !is_paid(overlay.order(position.order)) {
+    if !is_paid(basis.overlay.order(position.order)) {
         return Ok(());
     }
-    let come = is_out_after(overlay, row);
-    let gone = overlay.is_out(row.position);
+    let come = is_out_after(basis.overlay, row);
+    let gone = basis.overlay.is_out(row.position);
     if !come && !gone {
         return Ok(());
     }
     count_each(
         counts,
-        alloc,
-        catalogue,
+        basis.alloc,
+        basis.catalogue,
         &CheckinTurn {
             product: position.product,
             come,

@@ -1,6 +1,7 @@
 //! What does a change bring to each count of a quota and to a voucher's uses, and what does it take?
 #![tactic(auto)]
 
+mod basis;
 mod checkins;
 mod numbers;
 mod orders;

@@ -11,6 +11,7 @@ ghost use Rattle.draft_deltas.specs.Tallied.{CountsChange};
 ghost use Rattle.draft_deltas.specs.Touched.{NoOther, NoneElse, Keeps};
 ghost use Rattle.draft_deltas.specs.Shift.{count_here, count_covered, count_released, is_free_in, order_counts, keeps_status, AreTurned};
 
+use crate::basis::Basis;
 use crate::checkins::is_free_in;
 use crate::share::{Share, Shares, count_each};
 use crate::shift::{Spot, voucher_of};
@@ -184,33 +185,30 @@ fn spots_of<'o, B: Book>(
 
 /// Counts the positions of an order that stands in the place of its id, where it counts otherwise than the one before it.
 pub fn with_order<B: Book>(
-    overlay: &Overlay<'_, B>,
-    alloc: Global,
-    at: Moment,
-    catalogue: &Catalogue,
+    basis: &Basis<'_, '_, B>,
     counts: &mut Tally<Usage>,
     row: &Order,
     purchases: &[Purchase],
 ) -> Result<(), AllocError>
-    requires turned { AreTurned (PutOrder row.now) (rows_of overlay.now) purchases.now }
-    ensures more { OnOk result
-        (CountsChange (PutOrder row.now) overlay.now at catalogue.now counts.old counts.new) }
+    requires turned { AreTurned (PutOrder row.now) (rows_of basis.now.overlay.now) purchases.now }
+    ensures more { OnOk result (CountsChange (PutOrder row.now) basis.now.overlay.now
+        basis.now.at basis.now.catalogue.now counts.old counts.new) }
     ensures err { OnErr result (counts.new ≡ counts.old) }
 {
-    let gone = overlay.order(row.id);
+    let gone = basis.overlay.order(row.id);
     if keeps_status(row, gone) {
         return Ok(());
     }
     if purchases.is_empty() {
         return Ok(());
     }
-    let spots = spots_of(overlay, alloc, purchases)?;
+    let spots = spots_of(basis.overlay, basis.alloc, purchases)?;
     count_each(
         counts,
-        alloc,
-        catalogue,
+        basis.alloc,
+        basis.catalogue,
         &OrderTurn {
-            at,
+            at: basis.at,
             come: row,
             gone,
             spots,

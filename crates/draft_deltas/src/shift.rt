@@ -18,6 +18,7 @@ ghost use Rattle.draft_deltas.specs.Tallied.{CountsChange};
 ghost use Rattle.draft_deltas.specs.Touched.{NoOther, NoneElse, Keeps};
 ghost use Rattle.draft_deltas.specs.Shift.{once, spot_share, spot_counts, usage_of_places, cart_come, cart_gone, waiting_come, waiting_gone, sold_as, left_of, voucher_counts, voucher_come, voucher_gone, AreTurned};
 
+use crate::basis::Basis;
 use crate::checkins::with_checkin;
 use crate::orders::with_order;
 use crate::share::{Share, Shares, count_each};
@@ -35,46 +36,27 @@ use std::alloc::{AllocError, Global};
 /// they were.
 #[tactic(auto, unfolding(book_usage::specs::Shares::cart_share, book_usage::specs::Shares::waiting_share))]
 pub fn count_change<B: Book>(
-    overlay: &Overlay<'_, B>,
-    alloc: Global,
-    at: Moment,
-    catalogue: &Catalogue,
+    basis: &Basis<'_, '_, B>,
     counts: &mut Tally<Usage>,
     change: &Change,
     purchases: &[Purchase],
 ) -> Result<(), AllocError>
-    requires sale { IsSale change.now (rows_of overlay.now) }
-    requires turned { AreTurned change.now (rows_of overlay.now) purchases.now }
-    ensures more { OnOk result
-        (CountsChange change.now overlay.now at catalogue.now counts.old counts.new) }
+    requires sale { IsSale change.now (rows_of basis.now.overlay.now) }
+    requires turned { AreTurned change.now (rows_of basis.now.overlay.now) purchases.now }
+    ensures more { OnOk result (CountsChange change.now basis.now.overlay.now basis.now.at
+        basis.now.catalogue.now counts.old counts.new) }
     ensures err { OnErr result (counts.new ≡ counts.old) }
 {
     match change {
-        Change::PutVoucher(row) => with_voucher(
-            overlay,
-            alloc,
-            at,
-            catalogue,
-            counts,
-            row.id,
-            Some(row),
-        ),
-        Change::DropVoucher(id) => with_voucher(overlay, alloc, at, catalogue, counts, *id, None),
-        Change::PutCart(row) => with_cart(overlay, alloc, at, catalogue, counts, row.id, Some(row)),
-        Change::DropCart(id) => with_cart(overlay, alloc, at, catalogue, counts, *id, None),
-        Change::PutWaiting(row) => with_waiting(
-            overlay,
-            alloc,
-            at,
-            catalogue,
-            counts,
-            row.id,
-            Some(row),
-        ),
-        Change::DropWaiting(id) => with_waiting(overlay, alloc, at, catalogue, counts, *id, None),
-        Change::PutOrder(row) => with_order(overlay, alloc, at, catalogue, counts, row, purchases),
-        Change::PutPosition(row) => with_position(overlay, alloc, at, catalogue, counts, row),
-        Change::PutCheckin(row) => with_checkin(overlay, alloc, catalogue, counts, row),
+        Change::PutVoucher(row) => with_voucher(basis, counts, row.id, Some(row)),
+        Change::DropVoucher(id) => with_voucher(basis, counts, *id, None),
+        Change::PutCart(row) => with_cart(basis, counts, row.id, Some(row)),
+        Change::DropCart(id) => with_cart(basis, counts, *id, None),
+        Change::PutWaiting(row) => with_waiting(basis, counts, row.id, Some(row)),
+        Change::DropWaiting(id) => with_waiting(basis, counts, *id, None),
+        Change::PutOrder(row) => with_order(basis, counts, row, purchases),
+        Change::PutPosition(row) => with_position(basis, counts, row),
+        Change::PutCheckin(row) => with_checkin(basis, counts, row),
         _ => Ok(()),
     }
 }
@@ -216,29 +198,26 @@ fn cart_spot<'o, B: Book>(
 
 // Counts a cart position, or none, in the place of the id.
 fn with_cart<B: Book>(
-    overlay: &Overlay<'_, B>,
-    alloc: Global,
-    at: Moment,
-    catalogue: &Catalogue,
+    basis: &Basis<'_, '_, B>,
     counts: &mut Tally<Usage>,
     id: u64,
     come: Option<&CartPos>,
 ) -> Result<(), AllocError>
     ensures more { OnOk result (IsMore
-        (cart_come (rows_of overlay.now) at (option_copied come.entry))
-        (cart_gone (rows_of overlay.now) at id)
-        catalogue.now.lists.quotas counts.old counts.new) }
+        (cart_come (rows_of basis.now.overlay.now) basis.now.at (option_copied come.entry))
+        (cart_gone (rows_of basis.now.overlay.now) basis.now.at id)
+        basis.now.catalogue.now.lists.quotas counts.old counts.new) }
     ensures err { OnErr result (counts.new ≡ counts.old) }
 {
-    let come = cart_spot(overlay, at, come);
-    let gone = cart_spot(overlay, at, overlay.cart(id));
+    let come = cart_spot(basis.overlay, basis.at, come);
+    let gone = cart_spot(basis.overlay, basis.at, basis.overlay.cart(id));
     let waits = false;
     count_each(
         counts,
-        alloc,
-        catalogue,
+        basis.alloc,
+        basis.catalogue,
         &Spots {
-            at,
+            at: basis.at,
             waits,
             come,
             gone,
@@ -266,29 +245,26 @@ fn waiting_spot<'s>(at: Moment, entry: Option<&Waiting>) -> Option<Spot<'s>>
 
 // Counts a waiting entry, or none, in the place of the id.
 fn with_waiting<B: Book>(
-    overlay: &Overlay<'_, B>,
-    alloc: Global,
-    at: Moment,
-    catalogue: &Catalogue,
+    basis: &Basis<'_, '_, B>,
     counts: &mut Tally<Usage>,
     id: u64,
     come: Option<&Waiting>,
 ) -> Result<(), AllocError>
     ensures more { OnOk result (IsMore
         (waiting_come (option_copied come.entry))
-        (waiting_gone (rows_of overlay.now) id)
-        catalogue.now.lists.quotas counts.old counts.new) }
+        (waiting_gone (rows_of basis.now.overlay.now) id)
+        basis.now.catalogue.now.lists.quotas counts.old counts.new) }
     ensures err { OnErr result (counts.new ≡ counts.old) }
 {
-    let come = waiting_spot(at, come);
-    let gone = waiting_spot(at, overlay.entry(id));
+    let come = waiting_spot(basis.at, come);
+    let gone = waiting_spot(basis.at, basis.overlay.entry(id));
     let waits = true;
     count_each(
         counts,
-        alloc,
-        catalogue,
+        basis.alloc,
+        basis.catalogue,
         &Spots {
-            at,
+            at: basis.at,
             waits,
             come,
             gone,
@@ -356,31 +332,28 @@ fn sold_as(paid: bool, pending: bool, here: bool, released: bool) -> Usage
 
 // Counts a new order position, where its order is in force.
 fn with_position<B: Book>(
-    overlay: &Overlay<'_, B>,
-    alloc: Global,
-    at: Moment,
-    catalogue: &Catalogue,
+    basis: &Basis<'_, '_, B>,
     counts: &mut Tally<Usage>,
     row: &OrderPos,
 ) -> Result<(), AllocError>
-    ensures more { OnOk result
-        (CountsChange (PutPosition row.now) overlay.now at catalogue.now counts.old counts.new) }
+    ensures more { OnOk result (CountsChange (PutPosition row.now) basis.now.overlay.now
+        basis.now.at basis.now.catalogue.now counts.old counts.new) }
     ensures err { OnErr result (counts.new ≡ counts.old) }
 {
-    let order = overlay.order(row.order);
+    let order = basis.overlay.order(row.order);
     if !is_in_force(order) {
         return Ok(());
     }
-    let voucher = voucher_of(overlay, row.voucher);
+    let voucher = voucher_of(basis.overlay, row.voucher);
     count_each(
         counts,
-        alloc,
-        catalogue,
+        basis.alloc,
+        basis.catalogue,
         &Sale {
-            at,
+            at: basis.at,
             paid: is_paid(order),
             pending: is_pending(order),
-            out: overlay.is_out(row.id),
+            out: basis.overlay.is_out(row.id),
             product: row.product,
             voucher,
         },
@@ -467,32 +440,29 @@ fn may_block(at: Moment, voucher: Option<&Voucher>) -> bool
 
 // Counts a voucher, or none, in the place of the id.
 fn with_voucher<B: Book>(
-    overlay: &Overlay<'_, B>,
-    alloc: Global,
-    at: Moment,
-    catalogue: &Catalogue,
+    basis: &Basis<'_, '_, B>,
     counts: &mut Tally<Usage>,
     id: u64,
     come: Option<&Voucher>,
 ) -> Result<(), AllocError>
     ensures more { OnOk result (IsMore
-        (voucher_come (rows_of overlay.now) at id (option_copied come.entry))
-        (voucher_gone (rows_of overlay.now) at id (option_copied come.entry))
-        catalogue.now.lists.quotas counts.old counts.new) }
+        (voucher_come (rows_of basis.now.overlay.now) basis.now.at id (option_copied come.entry))
+        (voucher_gone (rows_of basis.now.overlay.now) basis.now.at id (option_copied come.entry))
+        basis.now.catalogue.now.lists.quotas counts.old counts.new) }
     ensures err { OnErr result (counts.new ≡ counts.old) }
 {
-    let gone = overlay.voucher(id);
-    if !may_block(at, come) && !may_block(at, gone) {
+    let gone = basis.overlay.voucher(id);
+    if !may_block(basis.at, come) && !may_block(basis.at, gone) {
         return Ok(());
     }
-    let redeemed = overlay.redeemed(id);
+    let redeemed = basis.overlay.redeemed(id);
     count_each(
         counts,
-        alloc,
-        catalogue,
+        basis.alloc,
+        basis.catalogue,
         &VoucherTurn {
-            overlay,
-            at,
+            overlay: basis.overlay,
+            at: basis.at,
             id,
             redeemed,
             come,

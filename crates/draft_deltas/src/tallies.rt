@@ -7,6 +7,7 @@ ghost use Rattle.draft_overlay.specs.Logs.{rows_of, IsSale};
 ghost use Rattle.draft_deltas.specs.Shift.{AreTurned};
 ghost use Rattle.draft_deltas.specs.Tallied.{CountsChange, CountsUses, IsNext, reach_now, reach_at, tallied_at};
 
+use crate::basis::Basis;
 use crate::numbers::{carts_after, vouchers_after};
 use crate::orders::turned_purchases;
 use crate::shift::count_change;
@@ -134,16 +135,13 @@ impl Tallies {
         let carts = carts_after(overlay, here.carts, change);
         let vouchers = vouchers_after(overlay, here.vouchers, change);
         self.reached.reserve(1)?;
-        count_both(
+        let basis = Basis {
             overlay,
             alloc,
             at,
             catalogue,
-            &mut self.counts,
-            &mut self.uses,
-            change,
-            &purchases,
-        )?;
+        };
+        count_both(&basis, &mut self.counts, &mut self.uses, change, &purchases)?;
         self.reached.push(reach)?;
         self.here = Standing { carts, vouchers };
         Ok(())
@@ -163,26 +161,24 @@ impl Tallies {
 
 // Counts what a change brings to the quotas and takes from them, and the uses of vouchers that come and go with it.
 fn count_both<B: Book>(
-    overlay: &Overlay<'_, B>,
-    alloc: Global,
-    at: Moment,
-    catalogue: &Catalogue,
+    basis: &Basis<'_, '_, B>,
     counts: &mut Tally<Usage>,
     uses: &mut Tally<Uses>,
     change: &Change,
     purchases: &[Purchase],
 ) -> Result<(), AllocError>
-    requires sale { IsSale change.now (rows_of overlay.now) }
-    requires turned { AreTurned change.now (rows_of overlay.now) purchases.now }
-    ensures more { OnOk result
-        (CountsChange change.now overlay.now at catalogue.now counts.old counts.new) }
-    ensures uses { OnOk result (CountsUses change.now overlay.now at uses.old uses.new) }
+    requires sale { IsSale change.now (rows_of basis.now.overlay.now) }
+    requires turned { AreTurned change.now (rows_of basis.now.overlay.now) purchases.now }
+    ensures more { OnOk result (CountsChange change.now basis.now.overlay.now basis.now.at
+        basis.now.catalogue.now counts.old counts.new) }
+    ensures uses { OnOk result
+        (CountsUses change.now basis.now.overlay.now basis.now.at uses.old uses.new) }
     ensures err { OnErr result (counts.new ≡ counts.old) }
     ensures err_uses { OnErr result (uses.new ≡ uses.old) }
 {
     let start = counts.len();
-    count_change(overlay, alloc, at, catalogue, counts, change, purchases)?;
-    if count_uses(overlay, at, uses, change, purchases).is_err() {
+    count_change(basis, counts, change, purchases)?;
+    if count_uses(basis, uses, change, purchases).is_err() {
         counts.truncate(start);
         return Err(AllocError);
     }

@@ -9,36 +9,41 @@ ghost use Rattle.draft_deltas.specs.Shift.{AreTurned};
 ghost use Rattle.book_tally.specs.Amounts.{no_uses};
 ghost use Rattle.draft_deltas.specs.Uses.{held_by, purchase_uses, used_by, used_since};
 
-use base_values::{Cents, Moment};
+use crate::basis::Basis;
+use base_values::Cents;
 use book_tally::{Amount, Tally, Uses};
 use book_usage::rules::{held_name, is_in_force, used_name};
 use book_usage::{Book, LookUps};
-use draft_overlay::{Overlay, Purchase};
+use draft_overlay::Purchase;
 use model_rows::{Change, Order};
 use std::alloc::AllocError;
 
 /// Counts the uses that come and go with a change. Where there is no memory for it, the counts are as they were.
 pub fn count_uses<B: Book>(
-    overlay: &Overlay<'_, B>,
-    at: Moment,
+    basis: &Basis<'_, '_, B>,
     uses: &mut Tally<Uses>,
     change: &Change,
     purchases: &[Purchase],
 ) -> Result<(), AllocError>
-    requires turned { AreTurned change.now (rows_of overlay.now) purchases.now }
-    ensures more { OnOk result (CountsUses change.now overlay.now at uses.old uses.new) }
+    requires turned { AreTurned change.now (rows_of basis.now.overlay.now) purchases.now }
+    ensures more { OnOk result
+        (CountsUses change.now basis.now.overlay.now basis.now.at uses.old uses.new) }
     ensures err { OnErr result (uses.new ≡ uses.old) }
 {
     match change {
         Change::PutCart(row) => {
-            let gone = held_name(at, overlay.cart(row.id));
-            count_held(uses, held_name(at, Some(row)), gone)
+            let gone = held_name(basis.at, basis.overlay.cart(row.id));
+            count_held(uses, held_name(basis.at, Some(row)), gone)
         }
-        Change::DropCart(id) => count_held(uses, None, held_name(at, overlay.cart(*id))),
+        Change::DropCart(id) => count_held(
+            uses,
+            None,
+            held_name(basis.at, basis.overlay.cart(*id)),
+        ),
         Change::PutPosition(row) => {
-            count_used(uses, used_name(overlay, Some(row)), row.discount)
+            count_used(uses, used_name(basis.overlay, Some(row)), row.discount)
         }
-        Change::PutOrder(row) => count_turned(overlay, at, uses, row, purchases),
+        Change::PutOrder(row) => count_turned(basis, uses, row, purchases),
         _ => Ok(()),
     }
 }
@@ -78,19 +83,18 @@ fn count_used(uses: &mut Tally<Uses>, come: Option<u64>, discount: Cents) -> Res
 
 // Counts the uses of an order's positions, where it comes into force or is so no more.
 fn count_turned<B: Book>(
-    overlay: &Overlay<'_, B>,
-    at: Moment,
+    basis: &Basis<'_, '_, B>,
     uses: &mut Tally<Uses>,
     row: &Order,
     purchases: &[Purchase],
 ) -> Result<(), AllocError>
-    requires turned { AreTurned (PutOrder row.now) (rows_of overlay.now) purchases.now }
-    ensures more { OnOk result (CountsUses (PutOrder row.now) overlay.now at uses.old uses.new) }
+    requires turned { AreTurned (PutOrder row.now) (rows_of basis.now.overlay.now) purchases.now }
+    ensures more { OnOk result
+        (CountsUses (PutOrder row.now) basis.now.overlay.now basis.now.at uses.old uses.new) }
     ensures err { OnErr result (uses.new ≡ uses.old) }
 {
-    let _ = at;
     let force = row.status.is_in_force();
-    let stood = is_in_force(overlay.order(row.id));
+    let stood = is_in_force(basis.overlay.order(row.id));
     if force == stood {
         return Ok(());
     }

@@ -7,7 +7,6 @@ mod add;
 pub mod adding;
 mod answers;
 mod beginning;
-mod committing;
 pub mod creating;
 pub mod error;
 pub mod laws;

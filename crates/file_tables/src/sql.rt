@@ -10,9 +10,8 @@ ghost use Rattle.file_tables.specs.Refusals.{refusal_of};
 ghost use Rattle.file_tables.specs.Shops.{HoldsWhileOpen, IsOfHouse, Leaves, holds_reordered};
 
 use crate::answers::find_answer;
-use crate::committing::Commit;
 use crate::tokens::find_number;
-use crate::writes::takes;
+use crate::writes::{Commit, takes};
 use base_values::{Moment, Response};
 use file_meaning::{answer_known, changes_known};
 use file_rows::ShopRow;

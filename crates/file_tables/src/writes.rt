@@ -10,4 +10,4 @@ mod whole;
 mod writable;
 
 pub(crate) use taken::takes;
-pub(crate) use whole::write_all;
+pub(crate) use whole::Commit;

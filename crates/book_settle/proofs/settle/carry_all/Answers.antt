@@ -28,9 +28,9 @@ loop-change-init c =
       stay = λ id none. none;
       new = subst (λ (l : List Change). ArePutsNew (redeemed_at c.args.store.now.state) l c.args.store.now.state.lists) (sym list) c.requires.new;
       unspent = subst (λ (l : List Change). ArePutsNew (spent_at c.args.store.now.state) l c.args.store.now.state.lists) (sym list) c.requires.unspent;
-      usages = by_id (record c.args.store.now.state { moment = c.args.from }) c.args.usages.now.items order c.requires.usages;
-      redeems = redeemed_by_id c.args.store.now.state c.args.redeems.now.items c.known.ensures.vouchers.in_order c.requires.redeems;
-      spents = spent_by_id c.args.store.now.state c.args.spents.now.items c.known.ensures.vouchers.in_order c.requires.spents;
+      usages = by_id (record c.args.store.now.state { moment = c.args.from }) c.args.counted.now.usages.items order c.requires.usages;
+      redeems = redeemed_by_id c.args.store.now.state c.args.counted.now.redeems.items c.known.ensures.vouchers.in_order c.requires.redeems;
+      spents = spent_by_id c.args.store.now.state c.args.counted.now.spents.items c.known.ensures.vouchers.in_order c.requires.spents;
       small = c.requires.small;
       held = c.requires.held;
     }
@@ -51,18 +51,18 @@ loop-change-preserved c =
       next = ap (λ (s : State). s.next) c.carry.ensures.state ∙ c.loop-change.invariant.next;
       moment = ap (λ (s : State). s.moment) c.carry.ensures.state ∙ c.loop-change.invariant.moment;
       room = omega (arith, c.loop-change.invariant.room, ap weight list, c.carry.ensures.room);
-      usages_room = omega (arith, c.loop-change.invariant.usages_room, ap weight list, c.carry.ensures.usages_room);
-      redeems_room = omega (arith, c.loop-change.invariant.redeems_room, ap weight list, c.carry.ensures.redeems_room);
-      spents_room = omega (arith, c.loop-change.invariant.spents_room, ap weight list, c.carry.ensures.spents_room);
-      holds_room = omega (arith, c.loop-change.invariant.holds_room, ap weight list, c.carry.ensures.holds_room);
+      usages_room = omega (arith, c.loop-change.invariant.usages_room, ap weight list, c.carry.ensures.kept.usages_room);
+      redeems_room = omega (arith, c.loop-change.invariant.redeems_room, ap weight list, c.carry.ensures.kept.redeems_room);
+      spents_room = omega (arith, c.loop-change.invariant.spents_room, ap weight list, c.carry.ensures.kept.spents_room);
+      holds_room = omega (arith, c.loop-change.invariant.holds_room, ap weight list, c.carry.ensures.kept.holds_room);
       stay = λ id none. c.loop-change.invariant.stay id (none_goes id c.in-Some.change c.loop-change.store.state.lists (sym (ap (λ (s : State). row_at (λ (q : Quota). q.id) id s.lists.catalogue.quotas) c.carry.ensures.state) ∙ none));
       new = subst (λ (s : State). ArePutsNew (redeemed_at old) (reverse c.pop.new.self.items) s.lists) (sym c.carry.ensures.state) (others_new (redeemed_at old) c.in-Some.change (reverse c.pop.new.self.items) c.loop-change.store.state.lists puts);
       unspent = subst (λ (s : State). ArePutsNew (spent_at old) (reverse c.pop.new.self.items) s.lists) (sym c.carry.ensures.state) (others_new (spent_at old) c.in-Some.change (reverse c.pop.new.self.items) c.loop-change.store.state.lists unspent);
-      usages = c.carry.ensures.usages (used_at past) (λ id none. none_used past id (c.loop-change.invariant.stay id none)) c.loop-change.invariant.usages ∙ ap (λ (s : State). map (λ (q : Quota). used_at past q.id) s.lists.catalogue.quotas) (sym c.carry.ensures.state);
-      redeems = c.carry.ensures.redeems (redeemed_at old) (first_new (redeemed_at old) c.in-Some.change (reverse c.pop.new.self.items) c.loop-change.store.state.lists puts) c.loop-change.invariant.redeems ∙ ap (λ (s : State). map (λ (v : Voucher). redeemed_at old v.id) s.lists.vouchers) (sym c.carry.ensures.state);
-      spents = c.carry.ensures.spents (spent_at old) (first_new (spent_at old) c.in-Some.change (reverse c.pop.new.self.items) c.loop-change.store.state.lists unspent) c.loop-change.invariant.spents ∙ ap (λ (s : State). map (λ (v : Voucher). spent_at old v.id) s.lists.vouchers) (sym c.carry.ensures.state);
+      usages = c.carry.ensures.kept.usages (used_at past) (λ id none. none_used past id (c.loop-change.invariant.stay id none)) c.loop-change.invariant.usages ∙ ap (λ (s : State). map (λ (q : Quota). used_at past q.id) s.lists.catalogue.quotas) (sym c.carry.ensures.state);
+      redeems = c.carry.ensures.kept.redeems (redeemed_at old) (first_new (redeemed_at old) c.in-Some.change (reverse c.pop.new.self.items) c.loop-change.store.state.lists puts) c.loop-change.invariant.redeems ∙ ap (λ (s : State). map (λ (v : Voucher). redeemed_at old v.id) s.lists.vouchers) (sym c.carry.ensures.state);
+      spents = c.carry.ensures.kept.spents (spent_at old) (first_new (spent_at old) c.in-Some.change (reverse c.pop.new.self.items) c.loop-change.store.state.lists unspent) c.loop-change.invariant.spents ∙ ap (λ (s : State). map (λ (v : Voucher). spent_at old v.id) s.lists.vouchers) (sym c.carry.ensures.state);
       small = subst (λ (s : State). AreSmall s.lists) (sym c.carry.ensures.state) c.carry.ensures.small;
-      held = subst (λ (s : State). AreHeld s.lists s.moment c.carry.new.holds.items) (sym c.carry.ensures.state) c.carry.ensures.held;
+      held = subst (λ (s : State). AreHeld s.lists s.moment c.carry.new.counted.holds.items) (sym c.carry.ensures.state) c.carry.ensures.held;
     }
 
 pub carry-requires-clause-fits : goal.carry-requires-clause-fits

@@ -13,18 +13,18 @@ invariant-loop-change l = record {
   next : l.store.state.next ≡ l.fn.store.state.next;
   moment : l.store.state.moment ≡ l.fn.store.state.moment;
   room : weight (reverse l.list.items) ≤ l.store.room;
-  usages_room : weight (reverse l.list.items) ≤ vec_capacity l.usages - length l.usages.items;
-  redeems_room : weight (reverse l.list.items) ≤ vec_capacity l.redeems - length l.redeems.items;
-  spents_room : weight (reverse l.list.items) ≤ vec_capacity l.spents - length l.spents.items;
-  holds_room : weight (reverse l.list.items) ≤ vec_capacity l.holds - length l.holds.items;
+  usages_room : weight (reverse l.list.items) ≤ vec_capacity l.counted.usages - length l.counted.usages.items;
+  redeems_room : weight (reverse l.list.items) ≤ vec_capacity l.counted.redeems - length l.counted.redeems.items;
+  spents_room : weight (reverse l.list.items) ≤ vec_capacity l.counted.spents - length l.counted.spents.items;
+  holds_room : weight (reverse l.list.items) ≤ vec_capacity l.counted.holds - length l.counted.holds.items;
   stay : (id : ℕ) → row_at (λ q. q.id) id l.store.state.lists.catalogue.quotas ≡ None → row_at (λ q. q.id) id l.fn.store.state.lists.catalogue.quotas ≡ None;
   new : ArePutsNew (redeemed_at l.fn.store.state) (reverse l.list.items) l.store.state.lists;
   unspent : ArePutsNew (spent_at l.fn.store.state) (reverse l.list.items) l.store.state.lists;
-  usages : l.usages.items ≡ map (λ q. used_at (record l.fn.store.state { moment = l.fn.from }) q.id) l.store.state.lists.catalogue.quotas;
-  redeems : l.redeems.items ≡ map (λ v. redeemed_at l.fn.store.state v.id) l.store.state.lists.vouchers;
-  spents : l.spents.items ≡ map (λ v. spent_at l.fn.store.state v.id) l.store.state.lists.vouchers;
+  usages : l.counted.usages.items ≡ map (λ q. used_at (record l.fn.store.state { moment = l.fn.from }) q.id) l.store.state.lists.catalogue.quotas;
+  redeems : l.counted.redeems.items ≡ map (λ v. redeemed_at l.fn.store.state v.id) l.store.state.lists.vouchers;
+  spents : l.counted.spents.items ≡ map (λ v. spent_at l.fn.store.state v.id) l.store.state.lists.vouchers;
   small : AreSmall l.store.state.lists;
-  held : AreHeld l.store.state.lists l.store.state.moment l.holds.items;
+  held : AreHeld l.store.state.lists l.store.state.moment l.counted.holds.items;
 }
 
 abbrev pub decreases-loop-change : goal.decreases-loop-change

@@ -16,10 +16,10 @@ use Rattle.book_settle.proofs.Told.{settle_is, redeems_are, spents_are}
 use Rattle.book_settle.proofs.settle.settle.Goals as goal
 
 pub carry_all-requires-clause-redeems : goal.carry_all-requires-clause-redeems
-carry_all-requires-clause-redeems c = subst (λ (s : State). c.args.redeems.now.items ≡ map (λ (v : Voucher). redeemed v.id s.lists) s.lists.vouchers) (sym c.set.ensures.state) c.requires.kept.redeems
+carry_all-requires-clause-redeems c = subst (λ (s : State). c.args.counted.now.redeems.items ≡ map (λ (v : Voucher). redeemed v.id s.lists) s.lists.vouchers) (sym c.set.ensures.state) c.requires.kept.redeems
 
 pub carry_all-requires-clause-spents : goal.carry_all-requires-clause-spents
-carry_all-requires-clause-spents c = subst (λ (s : State). AreSpent s.lists c.args.spents.now.items) (sym c.set.ensures.state) c.requires.kept.spents
+carry_all-requires-clause-spents c = subst (λ (s : State). AreSpent s.lists c.args.counted.now.spents.items) (sym c.set.ensures.state) c.requires.kept.spents
 
 pub carry_all-requires-clause-new : goal.carry_all-requires-clause-new
 carry_all-requires-clause-new c =
@@ -64,9 +64,9 @@ returns-clause-kept c =
     ∙ ap (λ (s : State). map (λ (v : Voucher). spent_at s v.id) new.lists.vouchers) c.set.ensures.state
     ∙ ap (λ (l : List Voucher). map (λ v. spent_at old v.id) l) (sym c.vouchers-3.ensures) in
     record {
-      usages = settle_is old new c.carry_all.new.usages.items c.set_usages.new.usages.items c.args.counts.now c.quotas-2.result.now c.quotas.result.now before after quotas (c.requires.counts ∙ ap (counts_after old) (sym is)) c.quotas-2.ensures used c.set_usages.ensures.kept;
-      redeems = redeems_are old new c.carry_all.new.redeems.items c.set_redeems.new.redeems.items c.args.counts.now c.vouchers-2.result.now c.vouchers.result.now c.known.ensures.vouchers.in_order c.known-3.ensures.vouchers.in_order c.vouchers.ensures (c.requires.counts ∙ ap (counts_after old) (sym is)) c.vouchers-2.ensures uses c.set_redeems.ensures.kept;
-      spents = spents_are old new c.carry_all.new.spents.items c.set_spents.new.spents.items c.args.counts.now c.vouchers-4.result.now c.vouchers-3.result.now c.known.ensures.vouchers.in_order c.known-3.ensures.vouchers.in_order c.vouchers-3.ensures (c.requires.counts ∙ ap (counts_after old) (sym is)) c.vouchers-4.ensures cents c.set_spents.ensures.kept;
+      usages = settle_is old new c.carry_all.new.counted.usages.items c.set_usages.new.usages.items c.args.counts.now c.quotas-2.result.now c.quotas.result.now before after quotas (c.requires.counts ∙ ap (counts_after old) (sym is)) c.quotas-2.ensures used c.set_usages.ensures.kept;
+      redeems = redeems_are old new c.carry_all.new.counted.redeems.items c.set_redeems.new.redeems.items c.args.counts.now c.vouchers-2.result.now c.vouchers.result.now c.known.ensures.vouchers.in_order c.known-3.ensures.vouchers.in_order c.vouchers.ensures (c.requires.counts ∙ ap (counts_after old) (sym is)) c.vouchers-2.ensures uses c.set_redeems.ensures.kept;
+      spents = spents_are old new c.carry_all.new.counted.spents.items c.set_spents.new.spents.items c.args.counts.now c.vouchers-4.result.now c.vouchers-3.result.now c.known.ensures.vouchers.in_order c.known-3.ensures.vouchers.in_order c.vouchers-3.ensures (c.requires.counts ∙ ap (counts_after old) (sym is)) c.vouchers-4.ensures cents c.set_spents.ensures.kept;
       held = c.carry_all.ensures.held;
       small = c.carry_all.ensures.small;
     }

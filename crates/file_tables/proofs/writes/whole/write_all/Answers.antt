@@ -19,8 +19,8 @@ returns-in-Some g c = record {
       let s3 = state g.S.Store c.write_each.new.tx.conn.now in
       let s4 = state g.S.Store c.write_counts.new.tx.conn.now in
       let s5 = state g.S.Store c.write_answer.new.tx.conn.now in
-      let changes = c.args.changes.now in
-      let from = c.args.from in
+      let changes = c.args.commit.now.changes.now in
+      let from = c.args.commit.now.from in
       let number = c.in_ok-number.number in
       let clean4 : HasCleanDisk s4 = omega (arith, c.write_answer.ensures.inside.crash.clean) in
       let clean3 : HasCleanDisk s3 = omega (arith, c.write_counts.ensures.inside.crash.clean) in
@@ -31,5 +31,5 @@ returns-in-Some g c = record {
       let e = c.in_ok-write_answer.ensures.written clean (inside_fit _ _ s3 s4 d) in
       let is = b.0 ∙ same_next changes from in
       let sum : c.in-Some.free ≡ number + 1 = search rules in
-      (sum ∙ ap (λ n. n + 1) is, all_written c.args.shop.now changes c.args.counts.now from number c.args.at (kept_listed c.args.kept) s0 s2 s3 s4 s5 is a b.1 d e);
+      (sum ∙ ap (λ n. n + 1) is, all_written c.args.commit.now.shop.now changes c.args.commit.now.counts.now from number c.args.commit.now.at (kept_listed c.args.commit.now.kept) s0 s2 s3 s4 s5 is a b.1 d e);
 }
