@@ -1,3 +1,4 @@
 pub mod Clock
 pub mod Places
+pub mod Times
 pub mod Visits

@@ -2,6 +2,7 @@
 
 ghost use Rattle.std.specs.Prelude.{◌≡◌, ◌≤◌, Some, true, false, IfSome};
 ghost use Rattle.web_server.specs.Places.{MayGo};
+ghost use Rattle.web_server.specs.Times.{began_after, crowd_with, is_up};
 
 use web_turns::Needs;
 
@@ -42,7 +43,9 @@ impl Crowd {
     }
 
     /// The same with one caller more. One who has an answer underway is in neither group.
-    pub(crate) fn with(self, since: Since, needs: Needs) -> Crowd {
+    pub(crate) fn with(self, since: Since, needs: Needs) -> Crowd
+        ensures { result ≡ crowd_with since needs self }
+    {
         let Crowd { between, within } = self;
         match (needs, since.began) {
             (Needs::Bytes, None) => Crowd {
@@ -94,7 +97,8 @@ impl Since {
 
     /// The same behind a turn. Whoever waited for bytes, and does still, is within a request.
     pub(crate) fn behind(self, before: Needs, after: Needs, now: u64) -> Since
-        ensures { result.waits ≡ now }
+        ensures { result
+            ≡ record { waits = now; began = began_after before after self.began now } }
     {
         let began = match (before, after) {
             (Needs::Bytes, Needs::Bytes) => Some(self.began.unwrap_or(now)),
@@ -104,7 +108,9 @@ impl Since {
     }
 
     /// Whether its time is up.
-    pub(crate) fn is_up(self, needs: Needs, now: u64) -> bool {
+    pub(crate) fn is_up(self, needs: Needs, now: u64) -> bool
+        ensures { result ≡ is_up self needs now }
+    {
         match (needs, self.began) {
             (Needs::Bytes, None) => now.saturating_sub(self.waits) >= BETWEEN,
             (Needs::Bytes, Some(began)) => now.saturating_sub(began) >= WITHIN,
