@@ -2,6 +2,7 @@
 use Rattle.std.specs.Prelude.{ℕ, Bool, true, false, ◌&&◌, List, [], ◌∷◌, length, Option, Some, None, Result, Ok, Err, codes, nat_lt, nat_le, if◌then◌else◌}
 use Rattle.std.specs.Str.{is_utf8}
 use Rattle.csv.specs.Records.{field_at}
+use Rattle.base_values.specs.Counts.{most_uses}
 use Rattle.base_values.specs.declared.price_mode.PriceMode.{PriceMode}
 use Rattle.base_values.specs.declared.price_mode.PriceMode.TheVariants as modes
 use Rattle.base_values.specs.declared.refusal.ValueRefusal.{ValueRefusal}
@@ -40,7 +41,7 @@ is_code text = nat_lt 0 (length text) && is_text text
 -- a number of uses that a voucher may have
 abbrev pub uses_within : Option ℕ → Option ℕ
 uses_within None = None
-uses_within (Some n) = if nat_le 1 n && nat_le n 1000000 then Some n else None
+uses_within (Some n) = if nat_le 1 n && nat_le n most_uses then Some n else None
 
 -- 1 to 1,000,000 uses
 abbrev pub uses_in : List ℕ → Option ℕ

@@ -6,7 +6,7 @@ ghost use Rattle.base_values.specs.Texts.{IsText, same_text};
 ghost use Rattle.app_csv.specs.Columns.{column, fits_mode, flag_in, id_in, is_code, is_column, is_named, mode_in, moment_in, uses_in, value_in};
 
 use base_dates::read_moment;
-use base_values::{Cents, Moment, PriceMode, Uses, is_text, number_of, read_cents};
+use base_values::{Cents, MOST_USES, Moment, PriceMode, Uses, is_text, number_of, read_cents};
 use csv::ByteRecord;
 use model_catalogue::LAST_ID;
 use std::str;
@@ -64,7 +64,7 @@ pub(crate) fn uses_in(text: &str) -> Option<Uses>
     ensures { result ≡ uses_in text.now }
 {
     match number_of(text.as_bytes()) {
-        Some(n) if n >= 1 && n <= 1_000_000 => Some(Uses::new(n as u32)),
+        Some(n) if n >= 1 && n <= MOST_USES => Some(Uses::new(n as u32)),
         _ => None,
     }
 }

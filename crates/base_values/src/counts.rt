@@ -5,6 +5,15 @@ ghost use Rattle.base_values.specs.Counts.{IsUses, IsSize, IsPriority};
 
 use std::marker::Model;
 
+/// How often a voucher may be used at most.
+pub const MOST_USES: u64 = 1_000_000;
+
+/// How many places a quota may have at most.
+pub const MOST_PLACES: u64 = 1_000_000;
+
+/// The highest priority; the lowest is as far below 0.
+pub const MOST_PRIORITY: i32 = 1_000_000;
+
 /// How often a voucher may be used: 1 to 1,000,000 times.
 #[derive(Clone, Copy, PartialEq, Eq, PartialOrd, Ord)]
 pub struct Uses {

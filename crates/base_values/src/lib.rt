@@ -23,7 +23,7 @@ pub mod text;
 pub use answer::{Answer, Body, Methods, Response};
 pub use cents::{Cents, cents_text, read_cents, total_text};
 pub use codes::{order_code, read_code};
-pub use counts::{Priority, Size, Uses};
+pub use counts::{MOST_PLACES, MOST_PRIORITY, MOST_USES, Priority, Size, Uses};
 pub use digits::number_of;
 pub use draw::Draw;
 pub use known::Known;

@@ -7,6 +7,9 @@ ghost use Rattle.base_values.specs.Slugs.{IsSlug, is_slug, is_slug_byte};
 use std::alloc::{AllocError, Global};
 use std::marker::Model;
 
+/// How many bytes a slug has at most.
+pub const MOST_SLUG: usize = 50;
+
 /// A short name of an organizer or an event, as it stands in paths: 1 to 50 ASCII letters, digits, `-`, `.` and `_`.
 /// Contracts see the list of its bytes.
 #[derive(Drop)]
@@ -58,7 +61,7 @@ pub fn is_slug(text: &str) -> bool
     ensures { result ≡ is_slug text.now }
 {
     let bytes = text.as_bytes();
-    !bytes.is_empty() && bytes.len() <= 50 && are_slug_bytes(bytes)
+    !bytes.is_empty() && bytes.len() <= MOST_SLUG && are_slug_bytes(bytes)
 }
 
 // Whether each byte is an ASCII letter, a digit, `-`, `.` or `_`.

@@ -7,6 +7,9 @@ ghost use Rattle.base_values.specs.Texts.{IsText, is_plain_byte, is_text, same_t
 use std::alloc::{AllocError, Global};
 use std::marker::Model;
 
+/// How many bytes a text of a row has at most.
+pub const MOST_TEXT: usize = 254;
+
 /// A text of a row: at most 254 bytes, none of them below 32 or 127. Contracts see the list of its bytes.
 #[derive(Drop)]
 pub struct Text {
@@ -71,7 +74,7 @@ impl Text {
 pub fn is_text(chars: &str) -> bool
     ensures { result ≡ is_text chars.now }
 {
-    chars.len() <= 254 && are_plain_bytes(chars.as_bytes())
+    chars.len() <= MOST_TEXT && are_plain_bytes(chars.as_bytes())
 }
 
 // Whether no byte is below 32 or 127.

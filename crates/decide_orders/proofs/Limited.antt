@@ -25,8 +25,8 @@ use Rattle.model_commands.specs.declared.orders.NewOrder.{NewOrder}
 use Rattle.model_commands.specs.declared.orders.OrderRefusal.TheVariants.{Voucher as OfVoucher}
 use Rattle.model_invariant.proofs.Given.{given_or}
 use Rattle.decide_orders.specs.CartId.{cart_id_test, made_cart_id, cart_id_of}
-use Rattle.decide_orders.specs.Carts.{cart_row, row_of_sold}
-use Rattle.decide_orders.specs.Created.{order_row, position_row, position_for, rows_for}
+use Rattle.decide_orders.specs.Carts.{held_for, cart_row, row_of_sold}
+use Rattle.decide_orders.specs.Created.{payment_term, order_row, position_row, position_for, rows_for}
 use Rattle.decide_orders.specs.Moves.{end_after, moved_row}
 use Rattle.decide_orders.specs.Sold.{sold_for}
 use Rattle.decide_orders.proofs.Prices.{sold_money, sold_discount}
@@ -57,7 +57,7 @@ module _ (new : NewCart) (draw : Draw) (state : State) (fit : IsFitCart new) (si
         cart_id = cart_text new.cart_id draw state.next.cart sixteen (omega (arith, sound.range.next_ids.carts.within)) fit.cart_id;
         price = sold_money new.asked fit.asked [] state sound.ids.vouchers.in_order sound.limits sold is;
         made_at = sound.range.moment;
-        expires = given_or IsMoment new.expires (min (state.moment + 1800) last_moment) fit.expires (ends (state.moment + 1800));
+        expires = given_or IsMoment new.expires (min (state.moment + held_for) last_moment) fit.expires (ends (state.moment + held_for));
       })
 
 -- a new order
@@ -65,7 +65,7 @@ pub order_limited : (new : NewOrder) (state : State) → IsFitOrder new → IsSo
 order_limited new state fit sound = record {
   email = fit.email;
   made_at = sound.range.moment;
-  expires = given_or IsMoment new.expires (min (state.moment + 1209600) last_moment) fit.expires (ends (state.moment + 1209600));
+  expires = given_or IsMoment new.expires (min (state.moment + payment_term) last_moment) fit.expires (ends (state.moment + payment_term));
 }
 
 -- its positions

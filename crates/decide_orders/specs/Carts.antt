@@ -1,5 +1,5 @@
 -- Adding a cart position: the first refusal, or else the box office with the new row.
-use Rattle.std.specs.Prelude.{◌+◌, Bool, ◌||◌, not, [], ◌∷◌, Result, Ok, unwrap_or, min}
+use Rattle.std.specs.Prelude.{ℕ, ◌+◌, Bool, ◌||◌, not, [], ◌∷◌, Result, Ok, unwrap_or, min}
 use Rattle.base_values.specs.Deciding.{◌>>=◌, ◌>>◌, check, refuse_some, map_err}
 use Rattle.base_values.specs.Moments.{last_moment}
 use Rattle.base_values.specs.declared.draw.Draw.{Draw}
@@ -22,7 +22,11 @@ use Rattle.decide_orders.specs.declared.sold.Sold.{Sold}
 use Rattle.model_commands.specs.declared.orders.OrderRefusal.{OrderRefusal}
 use Rattle.model_commands.specs.declared.orders.OrderRefusal.TheVariants.{Voucher as OfVoucher}
 
--- the row gets the next id, and is held for 1800 seconds where no end is given
+-- how long a cart position is held where no end is given: half an hour
+abbrev pub held_for : ℕ
+held_for = 1800
+
+-- the row gets the next id, and is held so long where no end is given
 abbrev pub row_of_sold : NewCart → Draw → State → Sold → CartPos
 row_of_sold new draw state sold = record {
   id = state.next.cart;
@@ -30,7 +34,7 @@ row_of_sold new draw state sold = record {
   product = sold.product;
   price = sold.price;
   made_at = state.moment;
-  expires = unwrap_or new.expires (min (state.moment + 1800) last_moment);
+  expires = unwrap_or new.expires (min (state.moment + held_for) last_moment);
   voucher = sold.voucher;
 }
 

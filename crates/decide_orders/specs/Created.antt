@@ -28,14 +28,18 @@ use Rattle.model_commands.specs.declared.orders.OrderRefusal.TheVariants.{Vouche
 use Rattle.decide_orders.specs.Places.{own_positions}
 use Rattle.decide_orders.specs.Sold.{sold_for, discount_of}
 
--- the order's row: it has the next number, and 14 days where no end is given
+-- how long an order may be paid where no end is given: 14 days
+abbrev pub payment_term : ℕ
+payment_term = 1209600
+
+-- the order's row: it has the next number, and that term where no end is given
 abbrev pub order_row : NewOrder → State → Order
 order_row new state = record {
   id = state.next.order;
   email = new.email;
   status = status_of new.start;
   made_at = state.moment;
-  expires = unwrap_or new.expires (min (state.moment + 1209600) last_moment);
+  expires = unwrap_or new.expires (min (state.moment + payment_term) last_moment);
 }
 
 -- one position's row: its id, its number in the order, and what its voucher took off

@@ -24,6 +24,9 @@ use std::alloc::{AllocError, Global};
 // How many positions and how many cart ids a request for an order may have.
 const MOST_POSITIONS: usize = 500;
 
+// How long an order may be paid where its request gives no end: 14 days, in seconds.
+const PAYMENT_TERM: u64 = 1_209_600;
+
 /// Makes an order, in a draft without changes, and answers a copy of it with its positions. The carts that it names are
 /// consumed: all their positions go, exactly if the order is made, and uses and places are tested without them.
 /// Positions are priced one after another, each within what those before it leave of its voucher's budget.
@@ -83,7 +86,7 @@ fn new_order<B: Book>(
         email,
         status: new.start.status(),
         made_at: draft.moment(),
-        expires: new.expires.unwrap_or(draft.moment().later(1209600)),
+        expires: new.expires.unwrap_or(draft.moment().later(PAYMENT_TERM)),
     })
 }
 

@@ -29,7 +29,7 @@ use Rattle.model_invariant.proofs.SoundWaiting.{sound_changed_waiting}
 use Rattle.model_commands.specs.declared.waiting.WaitingRefusal.{WaitingRefusal}
 use Rattle.model_invariant.proofs.MadeCodes.{made_text, next_code_its_own}
 use Rattle.decide_waiting.proofs.SentTexts.{tag_text, no_text}
-use Rattle.decide_waiting.specs.Sending.{sent_voucher, with_its_voucher, with_sent, sent_changes, voucher_sent}
+use Rattle.decide_waiting.specs.Sending.{sent_for, sent_voucher, with_its_voucher, with_sent, sent_changes, voucher_sent}
 use Rattle.decide_waiting.specs.Serving.{queue, all_served, served_changes}
 use Rattle.decide_waiting.specs.Steps.{Run, run_with, state_after, each_sent, served_in_turn}
 use Rattle.decide_waiting.proofs.Leaves.{own_place}
@@ -64,7 +64,7 @@ target_of draw state product is = record {
 }
 
 -- it is within its limits
-ends_at : (at : ℕ) → IsMoment (min (at + 172800) last_moment)
+ends_at : (at : ℕ) → IsMoment (min (at + sent_for) last_moment)
 ends_at at = omega arith
 
 sent_limited : (draw : Draw) (state : State) (product : Product) → IsDraw draw → state.next.voucher < 2 ^ 64 → IsLimitedVoucher (sent_voucher draw state product)

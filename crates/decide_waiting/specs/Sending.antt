@@ -24,13 +24,17 @@ use Rattle.model_commands.specs.declared.waiting.WaitingRefusal.{WaitingRefusal}
 use Rattle.model_commands.specs.declared.waiting.WaitingRefusal.TheVariants.{Catalogue, SoldOut, AlreadySent, NoEntry}
 use Rattle.decide_waiting.specs.Places.{first_closed}
 
--- an entry's voucher: one use of its product, which is kept free for it for two days
+-- how long a voucher that is sent holds its place: two days
+abbrev pub sent_for : ℕ
+sent_for = 172800
+
+-- an entry's voucher: one use of its product, which is kept free for it so long
 abbrev pub sent_voucher : Draw → State → Product → Voucher
 sent_voucher draw state product = record {
   id = state.next.voucher;
   code = made_code draw state.next.voucher;
   max_usages = 1;
-  valid_until = Some (min (state.moment + 172800) last_moment);
+  valid_until = Some (min (state.moment + sent_for) last_moment);
   block_quota = true;
   allow_ignore_quota = false;
   price_mode = modes.None;

@@ -12,7 +12,7 @@ ghost use Rattle.file_rows.specs.Unread.{UnreadAt};
 use crate::column::{Column, value_at};
 use base_values::cents::LAST_CENTS;
 use base_values::moment::LAST_MOMENT;
-use base_values::{Cents, Moment, Priority, Size, Uses};
+use base_values::{Cents, MOST_PLACES, MOST_PRIORITY, MOST_USES, Moment, Priority, Size, Uses};
 use file_schema::RowError;
 use sqlite::Row;
 use sqlite_value::value::ValueRef;
@@ -76,7 +76,7 @@ impl Column for Uses {
     }
 
     fn read(_: Global, row: &Row, at: usize) -> Result<Uses, RowError> {
-        match number_in(row, at, 1, 1_000_000) {
+        match number_in(row, at, 1, MOST_USES) {
             Ok(n) => Ok(Uses::new(n as u32)),
             Err(error) => Err(error),
         }
@@ -93,7 +93,7 @@ impl Column for Size {
     }
 
     fn read(_: Global, row: &Row, at: usize) -> Result<Size, RowError> {
-        match number_in(row, at, 0, 1_000_000) {
+        match number_in(row, at, 0, MOST_PLACES) {
             Ok(n) => Ok(Size::new(n as u32)),
             Err(error) => Err(error),
         }
@@ -111,7 +111,7 @@ impl Column for Priority {
 
     fn read(_: Global, row: &Row, at: usize) -> Result<Priority, RowError> {
         match value_at::<i32>(row, at) {
-            Ok(n) if -1_000_000 <= n && n <= 1_000_000 => Ok(Priority::new(n)),
+            Ok(n) if -MOST_PRIORITY <= n && n <= MOST_PRIORITY => Ok(Priority::new(n)),
             Ok(_) => Err(RowError::Damaged),
             Err(error) => Err(error),
         }

@@ -6,11 +6,14 @@ ghost use Rattle.model_commands.specs.Pages.{is_page, page_rows};
 use base_sorted::{Row, Sparse};
 use std::alloc::{AllocError, Global};
 
+/// How many rows a page has at most.
+pub const PAGE: usize = 50;
+
 /// Whether a list with so many rows has a page of this number. An empty list has page 1 alone.
 pub fn is_page(number: u64, count: usize) -> bool
     ensures { result ≡ is_page number count }
 {
-    1 <= number && number <= (count.div_ceil(50) as u64).max(1)
+    1 <= number && number <= (count.div_ceil(PAGE) as u64).max(1)
 }
 
 /// How many rows stand before those of a page.
@@ -19,7 +22,7 @@ pub fn rows_before(number: u64, count: usize) -> usize
     ensures { result ≡ (number - 1) * 50 }
 {
     let _ = count;
-    (number as usize - 1) * 50
+    (number as usize - 1) * PAGE
 }
 
 /// The rows of a page.
@@ -28,7 +31,7 @@ pub fn page_rows<T>(rows: &[T], number: u64) -> &[T]
     ensures { result.now ≡ page_rows number rows.now }
 {
     let rest = &rows[rows_before(number, rows.len())..];
-    &rest[..rest.len().min(50)]
+    &rest[..rest.len().min(PAGE)]
 }
 
 /// The same of rows that come and go. Those before the page are passed one after another.
@@ -42,7 +45,7 @@ pub fn sparse_page_rows<'r, R: Row + Drop>(
 {
     rows.iter()
         .skip(rows_before(number, rows.len()))
-        .take(50)
+        .take(PAGE)
         .collect(alloc)
 }
 

@@ -10,7 +10,7 @@ use crate::office::Office;
 use base_values::List;
 use book_usage::Book;
 use decide_door::{belongs, position_count, positions, status, ticket_of};
-use model_commands::pages::{is_page, rows_before};
+use model_commands::pages::{PAGE, is_page, rows_before};
 use model_commands::{DoorRefusal, Kind, ListedTicket, Page, Refusal, Reply, Resource, Shown};
 use model_rows::{CheckinList, OrderPos};
 use std::alloc::{AllocError, Global};
@@ -90,7 +90,7 @@ impl<B: Book> Office<B> {
         ensures { IfOkIs result (let lists = self.now.state.lists in
             map (show_ticket list.now lists) (take 50 (drop before (belonging list.now lists)))) }
     {
-        let tickets = positions(self.book(), alloc, list, before, 50)?;
+        let tickets = positions(self.book(), alloc, list, before, PAGE)?;
         Ok(List::new(all_shown(alloc, tickets)?))
     }
 

@@ -20,13 +20,9 @@ periodic_counts state sent = record {
   sent = length sent;
 }
 
--- what was served, with these numbers
-abbrev pub work_counted : State → State × List ℕ → State × PeriodicCounts
-work_counted before served = (served.0, periodic_counts before served.1)
-
--- first what is overdue ends, then all who wait are served, in the box office as it is then
+-- first what is overdue ends, then all who wait are served, in the box office as it is then; and how many of each
 abbrev pub periodic_done : Draw → State → State × PeriodicCounts
-periodic_done draw state = work_counted state (all_served draw (pending_ended state))
+periodic_done draw state = let served = all_served draw (pending_ended state) in (served.0, periodic_counts state served.1)
 
 -- what it changes: orders that expire, cart positions that go, then each voucher that is sent and the entry that has it
 abbrev pub periodic_changes : Draw → State → List Change

@@ -1,5 +1,5 @@
 -- Messages as arrivals.
-use Rattle.std.specs.Prelude.{ℕ, List, Option, Some, None, Result, Ok, Err, unwrap_or, option_map}
+use Rattle.std.specs.Prelude.{ℕ, List, Option, Result, Ok, Err, unwrap_or, option_map, option_and_then}
 use Rattle.sha2.specs.Sha256.{sha256}
 use Rattle.base_values.specs.declared.answer.Response.{Response}
 use Rattle.base_devices.specs.declared.device.Tick.{Tick}
@@ -14,14 +14,9 @@ use Rattle.office_deliveries.specs.declared.arrival.Request.{Request}
 use Rattle.office_deliveries.specs.declared.arrival.Request.TheVariants as requests
 use Rattle.web_arrivals.specs.DeskView.{House}
 
--- the number of the token with this digest; none where no token is shown, or it isn't known
-abbrev pub number_by : (List ℕ → Option ℕ) → Option (List ℕ) → Option ℕ
-number_by tokens None = None
-number_by tokens (Some digest) = tokens digest
-
--- the number of the token that a message shows, by the SHA-256 digest of its text
+-- the number of the token that a message shows, by the SHA-256 digest of its text; none where it shows none, or that isn't known
 abbrev pub number_of : (List ℕ → Option ℕ) → Message → Option ℕ
-number_of tokens m = number_by tokens (option_map sha256 (token_of m))
+number_of tokens m = option_and_then tokens (option_map sha256 (token_of m))
 
 -- a request at a tick, under the number of a token and a key
 abbrev pub arriving : Tick → ℕ → List ℕ → Request → Arrival

@@ -1,6 +1,7 @@
 -- The bodies of items, variations and quotas, field by field in the order of their tests.
 use Rattle.std.specs.Prelude.{ℕ, true, false, List, [], Option, Result, Ok}
 use Rattle.serde_json.specs.Data.{Data}
+use Rattle.base_values.specs.Counts.{most_places}
 use Rattle.model_catalogue.specs.declared.requests.NewItem.{NewItem}
 use Rattle.model_catalogue.specs.declared.requests.ItemPatch.{ItemPatch}
 use Rattle.model_catalogue.specs.declared.requests.NewVariation.{NewVariation}
@@ -57,7 +58,7 @@ item_patch_of d = do
 
 -- the size of a quota, which has to be there: 0 to 1,000,000, or null for no limit
 abbrev pub size_of : Data → Result (Option ℕ) BodyFault
-size_of d = nullable fields.Size d >>= each (whole fields.Size 0 1000000)
+size_of d = nullable fields.Size d >>= each (whole fields.Size 0 most_places)
 
 -- a new quota; where nothing says that it releases places, it keeps them
 unfoldable pub quota_of : Data → Result NewQuota BodyFault
@@ -72,7 +73,7 @@ quota_of d = do
 
 -- the new size of a quota: absent it stays, and null is no limit
 abbrev pub new_size : Data → Result (Option (Option ℕ)) BodyFault
-new_size d = patched_whole_or_null fields.Size 0 1000000 d
+new_size d = patched_whole_or_null fields.Size 0 most_places d
 
 -- a change of a quota: no other field is read
 abbrev pub quota_patch_of : Data → Result QuotaPatch BodyFault

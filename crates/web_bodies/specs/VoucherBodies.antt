@@ -1,6 +1,7 @@
 -- The bodies of vouchers, field by field in the order of their tests.
 use Rattle.std.specs.Prelude.{ℕ, false, Option, Result, Ok}
 use Rattle.serde_json.specs.Data.{Data}
+use Rattle.base_values.specs.Counts.{most_uses}
 use Rattle.base_values.specs.declared.price_mode.PriceMode.TheVariants as modes
 use Rattle.model_commands.specs.declared.vouchers.NewVoucher.{NewVoucher}
 use Rattle.model_commands.specs.declared.vouchers.VoucherPatch.{VoucherPatch}
@@ -12,7 +13,7 @@ use Rattle.web_fields.specs.Patched.{patched_truth, patched_whole, patched_text,
 
 -- how often a voucher may be used: 1 to 1,000,000 times, once where it isn't said
 abbrev pub max_usages : Data → Result ℕ BodyFault
-max_usages d = whole_or fields.MaxUsages 1 1 1000000 d
+max_usages d = whole_or fields.MaxUsages 1 1 most_uses d
 
 -- a new voucher; without a code the shop makes one, and without a budget it may take off any amount
 unfoldable pub voucher_of : Data → Result NewVoucher BodyFault
@@ -48,7 +49,7 @@ voucher_of d = do
 
 -- the new number of uses, where it is given
 abbrev pub new_max_usages : Data → Result (Option ℕ) BodyFault
-new_max_usages d = patched_whole fields.MaxUsages 1 1000000 d
+new_max_usages d = patched_whole fields.MaxUsages 1 most_uses d
 
 -- a change of a voucher; its code can't be taken away
 unfoldable pub voucher_patch_of : Data → Result VoucherPatch BodyFault

@@ -1,6 +1,7 @@
 -- The bodies of entries of the waiting list, field by field in the order of their tests.
 use Rattle.std.specs.Prelude.{ℤ, pos, negsuc, Option, Result, Ok}
 use Rattle.serde_json.specs.Data.{Data}
+use Rattle.base_values.specs.Counts.{most_priority}
 use Rattle.model_commands.specs.declared.waiting.NewWaiting.{NewWaiting}
 use Rattle.model_commands.specs.declared.waiting.WaitingPatch.{WaitingPatch}
 use Rattle.model_faults.specs.declared.fields.Field.TheVariants as fields
@@ -17,7 +18,7 @@ lowest = negsuc 999999
 
 -- the highest priority, 1,000,000
 abbrev pub highest : ℤ
-highest = pos 1000000
+highest = pos most_priority
 
 -- the priority of a new entry: 0, where it isn't said
 abbrev pub priority : Data → Result ℤ BodyFault

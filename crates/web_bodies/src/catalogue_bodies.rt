@@ -6,7 +6,7 @@ ghost use Rattle.web_bodies.specs.CatalogueBodies.{variation_of, variation_entry
 ghost use Rattle.serde_json.specs.View.{view};
 
 use crate::copies::copied;
-use base_values::{List, Size, Text};
+use base_values::{List, MOST_PLACES, Size, Text};
 use model_catalogue::{ItemPatch, NewItem, NewQuota, NewVariation, QuotaPatch};
 use model_faults::Field;
 use serde_json::Value;
@@ -109,7 +109,7 @@ fn size_of(body: &Value) -> Result<Option<Size>, BodyFault>
     match nullable(Field::Size, body)? {
         None => Ok(None),
         Some(value) => {
-            let places = whole(Field::Size, 0, 1_000_000, value)?;
+            let places = whole(Field::Size, 0, MOST_PLACES, value)?;
             Ok(Some(Size::new(places as u32)))
         }
     }
@@ -138,7 +138,7 @@ pub fn quota_of(alloc: Global, body: &Value) -> Result<NewQuota, ReadError>
 fn new_size(body: &Value) -> Result<Option<Option<Size>>, BodyFault>
     ensures { result ≡ new_size (view body.now) }
 {
-    match patched_whole_or_null(Field::Size, 0, 1_000_000, body)? {
+    match patched_whole_or_null(Field::Size, 0, MOST_PLACES, body)? {
         None => Ok(None),
         Some(None) => Ok(Some(None)),
         Some(Some(places)) => Ok(Some(Some(Size::new(places as u32)))),

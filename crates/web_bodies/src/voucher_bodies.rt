@@ -6,7 +6,7 @@ ghost use Rattle.web_bodies.specs.VoucherBodies.{max_usages, voucher_of, new_max
 ghost use Rattle.serde_json.specs.View.{view};
 
 use crate::copies::copied;
-use base_values::{PriceMode, Text, Uses};
+use base_values::{MOST_USES, PriceMode, Text, Uses};
 use model_commands::{NewVoucher, VoucherPatch};
 use model_faults::Field;
 use serde_json::Value;
@@ -22,7 +22,7 @@ use web_fields::{
 fn max_usages(body: &Value) -> Result<Uses, BodyFault>
     ensures { result ≡ max_usages (view body.now) }
 {
-    let usages = whole_or(Field::MaxUsages, 1, 1, 1_000_000, body)?;
+    let usages = whole_or(Field::MaxUsages, 1, 1, MOST_USES, body)?;
     Ok(Uses::new(usages as u32))
 }
 
@@ -65,7 +65,7 @@ pub fn voucher_of(alloc: Global, body: &Value) -> Result<NewVoucher, ReadError>
 fn new_max_usages(body: &Value) -> Result<Option<Uses>, BodyFault>
     ensures { result ≡ new_max_usages (view body.now) }
 {
-    match patched_whole(Field::MaxUsages, 1, 1_000_000, body)? {
+    match patched_whole(Field::MaxUsages, 1, MOST_USES, body)? {
         None => Ok(None),
         Some(usages) => Ok(Some(Uses::new(usages as u32))),
     }

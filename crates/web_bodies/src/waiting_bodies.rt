@@ -5,7 +5,7 @@ ghost use Rattle.web_fields.specs.Reading.{Reads};
 ghost use Rattle.web_bodies.specs.WaitingBodies.{priority, waiting_of, new_priority, waiting_patch_of};
 ghost use Rattle.serde_json.specs.View.{view};
 
-use base_values::{Priority, Text};
+use base_values::{MOST_PRIORITY, Priority, Text};
 use model_commands::{NewWaiting, WaitingPatch};
 use model_faults::Field;
 use serde_json::Value;
@@ -19,7 +19,7 @@ use web_fields::{
 fn priority(body: &Value) -> Result<Priority, BodyFault>
     ensures { result ≡ priority (view body.now) }
 {
-    let rank = signed_or(Field::Priority, 0, -1_000_000, 1_000_000, body)?;
+    let rank = signed_or(Field::Priority, 0, -MOST_PRIORITY, MOST_PRIORITY, body)?;
     Ok(Priority::new(rank))
 }
 
@@ -45,7 +45,7 @@ pub fn waiting_of(alloc: Global, body: &Value) -> Result<NewWaiting, ReadError>
 fn new_priority(body: &Value) -> Result<Option<Priority>, BodyFault>
     ensures { result ≡ new_priority (view body.now) }
 {
-    match patched_signed(Field::Priority, -1_000_000, 1_000_000, body)? {
+    match patched_signed(Field::Priority, -MOST_PRIORITY, MOST_PRIORITY, body)? {
         None => Ok(None),
         Some(rank) => Ok(Some(Priority::new(rank))),
     }
