@@ -1,12 +1,12 @@
 -- What happens in a house, one after another.
-use Rattle.std.proofs.Common.{◌≡◌, ◌⊎◌, inl, inr, ℕ, ◌≤◌, List, [], ◌∷◌, ◌++◌, replicate, None, Option, Result, Ok, Err, IfErr, refl, sym, ap, subst, subst₂, arith}
+use Rattle.std.proofs.Common.{◌≡◌, inl, inr, ℕ, ◌≤◌, List, [], ◌∷◌, ◌++◌, replicate, None, Option, Result, Ok, Err, IfErr, refl, sym, ap, subst, subst₂, arith}
 use Rattle.base_values.specs.declared.answer.Answer.{Answer}
 use Rattle.base_devices.specs.declared.device.Tick.{Tick}
 use Rattle.web_http.specs.Messages.{Message}
 use Rattle.web_turns.specs.declared.turns.Next.{Next}
 use Rattle.web_turns.specs.declared.turns.Next.TheVariants as nexts
 use Rattle.web_turns.specs.Acts.{Between}
-use Rattle.web_turns.specs.Halls.{Caller, Callers, Does, DoesAll, IsFree, LetsIn, TurnsAt, callers, with_caller, with_place}
+use Rattle.web_turns.specs.Halls.{Callers, Does, DoesAll, IsFree, LetsIn, TurnsAt, callers, with_caller, with_place}
 use Rattle.web_turns.specs.Talks.{talk_begun}
 use Rattle.web_turns.proofs.StoryLemmas.{own_story}
 use Rattle.web_server.specs.Visits.{AnswersCallers, EndsAtOnce, EndsEarly, Happened, Hosts, Rearranged, Rearranges, Reseats, RoundsEnd, Served}

@@ -1,7 +1,11 @@
 -- Whose place is given to another caller.
-use Rattle.std.specs.Prelude.{◌≡◌, ◌≤◌, ⊤, ℕ, Option, Some, None}
+use Rattle.std.specs.Prelude.{◌≡◌, ◌+◌, ◌-◌, ◌^◌, ◌≤◌, ◌<◌, ◌==◌, ◌&&◌, ⊤, ℕ, zero, suc, min, nat_le, nat_lt, List, Option, Some, None, if◌then◌else◌, slice_get}
 use Rattle.web_turns.specs.declared.stage.Needs.{Needs}
 use Rattle.web_turns.specs.declared.stage.Needs.TheVariants as needs
+use Rattle.web_turns.specs.Halls.{Callers, IsFree, at_place, place_needs, with_place}
+use Rattle.web_server.specs.declared.times.Crowd.{Crowd}
+use Rattle.web_server.specs.declared.times.Since.{Since}
+use Rattle.web_server.specs.Times.{crowd_with}
 
 -- Who may have to go, where so many are between two requests and so many within one that began: whoever is between two, where those within one
 -- aren't more; whoever is within one; and whoever has an answer underway, where nobody is in either group.
@@ -10,3 +14,57 @@ MayGo between within needs.Bytes None = within ≤ between
 MayGo between within needs.Bytes (Some began) = ⊤
 MayGo between within needs.Room began = (between ≡ 0) × (within ≡ 0)
 MayGo between within needs.Nothing began = ⊥
+
+-- how readily one goes who has waited so long: not at all within a grace; beyond it the longer the readier, with so much added
+abbrev pub beyond : ℕ → ℕ → ℕ → Option ℕ
+beyond grace more long = if nat_le grace long then Some (min (more + long) (2 ^ 64 - 1)) else None
+
+-- Whoever waits for bytes may go: between two requests after a quarter of a second, before all who are within one, and only where these aren't
+-- more; within one a second after it began.
+abbrev pub readiness_of_waiting : Option ℕ → ℕ → Crowd → ℕ → Option ℕ
+readiness_of_waiting None waits crowd now = if nat_lt crowd.between crowd.within then None else beyond 250 (2 ^ 63) (now - waits)
+readiness_of_waiting (Some began) waits crowd now = beyond 1000 0 (now - began)
+
+-- Whoever has an answer underway may go a second after a part of it was taken, and only where all have one underway.
+abbrev pub readiness_of : Since → Needs → Crowd → ℕ → Option ℕ
+readiness_of since needs.Bytes crowd now = readiness_of_waiting since.began since.waits crowd now
+readiness_of since needs.Room crowd now = if (crowd.within == 0) && (crowd.between == 0) then beyond 1000 0 (now - since.waits) else None
+readiness_of since needs.Nothing crowd now = None
+
+-- the same where it is known since when the caller waits; else it may not go
+abbrev pub readiness_from : Option Since → Needs → Crowd → ℕ → Option ℕ
+readiness_from None needs crowd now = None
+readiness_from (Some since) needs crowd now = readiness_of since needs crowd now
+
+-- the crowd with whoever is at one more place
+abbrev pub crowd_at : Option Since → Needs → Crowd → Crowd
+crowd_at None needs crowd = crowd
+crowd_at (Some since) needs crowd = crowd_with since needs crowd
+
+-- how many are between two requests, and how many within one, at the first so many places
+unfoldable pub crowd_to : List Since → Callers → ℕ → Crowd
+crowd_to since callers zero = record { between = 0; within = 0 }
+crowd_to since callers (suc n) = crowd_at (slice_get since n) (place_needs (at_place n callers)) (crowd_to since callers n)
+
+-- how readily whoever is at a place goes, among all who are there
+unfoldable pub readiness_at : List Since → Callers → ℕ → ℕ → Option ℕ
+readiness_at since callers now place = readiness_from (slice_get since place) (place_needs (at_place place callers)) (crowd_to since callers 128) now
+
+-- Of the first so many places: nobody may go; or one goes first, than whom nobody is readier.
+abbrev pub GoesFirst : (ℕ → Option ℕ) → ℕ → Option ℕ → Type 0
+GoesFirst ready n None = (place : ℕ) → place < n → ready place ≡ None
+GoesFirst ready n (Some first) = (most : ℕ) × (ready first ≡ Some most) × ((place r : ℕ) → place < n → ready place ≡ Some r → r ≤ most)
+
+-- who is there when that one has left
+abbrev pub without : Option ℕ → Callers → Callers
+without None callers = callers
+without (Some place) callers = with_place place None callers
+
+-- One more comes: where a place is free nobody leaves, else whoever goes first, of all 128 places.
+pub record MakesRoom (ready : ℕ → Option ℕ) (old new : Callers) : Type 0 where
+  pub free : (place : ℕ) → IsFree place old → new ≡ old
+  pub full : ((place : ℕ) → IsFree place old → ⊥) → (first : Option ℕ) × GoesFirst ready 128 first × (new ≡ without first old)
+
+-- nobody is at any of the 128 places
+abbrev pub NobodyIsThere : Callers → Type 0
+NobodyIsThere callers = (place : ℕ) → place < 128 → place_needs (at_place place callers) ≡ needs.Nothing

@@ -1,10 +1,12 @@
 //! A house that is open: its callers, and when they have to go.
 
-ghost use Rattle.std.specs.Prelude.{◌≡◌, ◌+◌, ◌<◌, ◌≤◌, None, true, replicate, IfOk, IsOkUnless};
+ghost use Rattle.std.specs.Prelude.{◌≡◌, ◌+◌, ◌<◌, ◌≤◌, None, true, replicate, slice_get, IfOk, IsOkUnless};
 ghost use Rattle.web_connection.specs.Run.{AtTick};
 ghost use Rattle.web_cli.specs.declared.fault.RunFault.TheVariants.{Listen};
 ghost use Rattle.web_turns.specs.Acts.{between};
-ghost use Rattle.web_turns.specs.Halls.{IsFree, callers};
+ghost use Rattle.web_turns.specs.Halls.{IsFree, at_place, callers, place_needs, with_place};
+ghost use Rattle.web_server.specs.Places.{GoesFirst, MakesRoom, NobodyIsThere, crowd_at, crowd_to, readiness_at};
+ghost use Rattle.web_server.specs.Times.{EndsLate, is_late, stays};
 ghost use Rattle.web_server.specs.Visits.{Hosts, Rearranged, Reseats};
 
 use crate::clock::System;
@@ -79,7 +81,9 @@ impl<'a, R: Clock + System + Console> House<'a, R> {
     }
 
     // Whether no caller is there, and no connection that ended either.
-    fn is_empty(&self) -> bool {
+    fn is_empty(&self) -> bool
+        ensures { result ≡ true → NobodyIsThere self.now.hall }
+    {
         for place in 0..PLACES {
             if self.hall.needs(place) != Needs::Nothing {
                 return false;
@@ -90,7 +94,8 @@ impl<'a, R: Clock + System + Console> House<'a, R> {
 
     /// Whether all who were to be let in have come and gone.
     pub(crate) fn is_over(&self) -> bool
-        ensures { result ≡ true → self.now.left ≡ 0 }
+        ensures left { result ≡ true → self.now.left ≡ 0 }
+        ensures nobody { result ≡ true → NobodyIsThere self.now.hall }
     {
         self.left == 0 && self.is_empty()
     }
@@ -116,7 +121,9 @@ impl<'a, R: Clock + System + Console> House<'a, R> {
     // The caller at a place leaves.
     #[tactic(auto, using(crate::proofs::VisitLemmas::rearranged_leaves, crate::proofs::VisitLemmas::rearranged_none))]
     fn part(&mut self, place: usize, why: Parted, now: u64)
-        ensures { Reseats self.old.hall self.new.hall self.old.left self.new.left }
+        ensures leaves { self.new.hall ≡ with_place place None self.old.hall }
+        ensures since { self.new.since.items ≡ self.old.since.items }
+        ensures reseats { Reseats self.old.hall self.new.hall self.old.left self.new.left }
     {
         self.log.tell_parted(self.hall.number(place), why);
         if let Some(peer) = self.hall.leave(place) {
@@ -125,31 +132,49 @@ impl<'a, R: Clock + System + Console> House<'a, R> {
         }
     }
 
+    // The same crowd with whoever is at a place.
+    fn crowd_at(&self, place: usize, crowd: Crowd) -> Crowd
+        ensures { result ≡ crowd_at (slice_get self.now.since.items place)
+            (place_needs (at_place place self.now.hall)) crowd }
+    {
+        match self.since.get(place) {
+            Some(since) => crowd.with(*since, self.hall.needs(place)),
+            None => crowd,
+        }
+    }
+
     // How many callers are between two requests, and how many within one.
-    fn crowd(&self) -> Crowd {
+    #[tactic(auto, using(crate::proofs::PlaceLemmas::crowd_none, crate::proofs::PlaceLemmas::crowd_next))]
+    fn crowd(&self) -> Crowd
+        ensures { result ≡ crowd_to self.now.since.items self.now.hall 128 }
+    {
         let mut crowd = Crowd::new();
         for place in 0..PLACES {
-            if let Some(since) = self.since.get(place) {
-                crowd = crowd.with(*since, self.hall.needs(place));
-            }
+            crowd = self.crowd_at(place, crowd);
         }
         crowd
     }
 
-    // How readily the place of a caller is given to another one, in such a crowd.
-    fn readiness(&self, place: usize, crowd: Crowd, now: u64) -> Option<u64> {
+    // How readily the place of a caller is given to another one, in the crowd of all.
+    #[tactic(auto, unfolding(crate::specs::Places::readiness_at))]
+    fn readiness(&self, place: usize, crowd: Crowd, now: u64) -> Option<u64>
+        requires { crowd ≡ crowd_to self.now.since.items self.now.hall 128 }
+        ensures { result ≡ readiness_at self.now.since.items self.now.hall now place }
+    {
         let since = self.since.get(place)?;
         since.readiness(self.hall.needs(place), crowd, now)
     }
 
     // The place whose caller has to go first where another one comes: one of the greater group, of those within a request and those between two.
-    fn first_to_go(&self, now: u64) -> Option<usize> {
+    fn first_to_go(&self, now: u64) -> Option<usize>
+        ensures { GoesFirst (readiness_at self.now.since.items self.now.hall now) 128 result }
+    {
         let crowd = self.crowd();
         let mut found = None;
         let mut most = 0;
         for place in 0..PLACES {
             if let Some(readiness) = self.readiness(place, crowd, now) {
-                if readiness > most {
+                if found.is_none() || readiness > most {
                     found = Some(place);
                     most = readiness;
                 }
@@ -193,7 +218,9 @@ impl<'a, R: Clock + System + Console> House<'a, R> {
     // Where no place is free the caller leaves who has to go first.
     #[tactic(auto, using(crate::proofs::VisitLemmas::rearranged_none))]
     fn make_room(&mut self, now: u64)
-        ensures { Reseats self.old.hall self.new.hall self.old.left self.new.left }
+        ensures room { MakesRoom (readiness_at self.old.since.items self.old.hall now)
+            self.old.hall self.new.hall }
+        ensures reseats { Reseats self.old.hall self.new.hall self.old.left self.new.left }
     {
         if self.hall.free_place().is_none() {
             if let Some(place) = self.first_to_go(now) {
@@ -341,24 +368,35 @@ impl<'a, R: Clock + System + Console> House<'a, R> {
         }
     }
 
-    // The caller at a place leaves if its time is up.
-    #[tactic(auto, using(crate::proofs::VisitLemmas::rearranged_none))]
-    fn end_late(&mut self, place: usize, now: u64)
-        ensures { Reseats self.old.hall self.new.hall self.old.left self.new.left }
+    // Whether the time of whoever is at a place is up.
+    fn is_late(&self, place: usize, now: u64) -> bool
+        ensures { result ≡ is_late (slice_get self.now.since.items place) now
+            (at_place place self.now.hall) }
     {
-        let needs = self.hall.needs(place);
-        let is_up = match self.since.get(place) {
-            Some(since) => since.is_up(needs, now),
+        match self.since.get(place) {
+            Some(since) => since.is_up(self.hall.needs(place), now),
             None => false,
-        };
-        if is_up {
+        }
+    }
+
+    // The caller at a place leaves if its time is up.
+    #[tactic(auto, using(crate::proofs::VisitLemmas::rearranged_none, crate::proofs::PlaceLemmas::with_same))]
+    fn end_late(&mut self, place: usize, now: u64)
+        ensures ends { self.new.hall ≡ with_place place
+            (stays (slice_get self.old.since.items place) now (at_place place self.old.hall))
+            self.old.hall }
+        ensures since { self.new.since.items ≡ self.old.since.items }
+        ensures reseats { Reseats self.old.hall self.new.hall self.old.left self.new.left }
+    {
+        if self.is_late(place, now) {
             self.part(place, Parted::Late, now);
         }
     }
 
     /// Ends what takes too long, and looks at the door again where there was no file for a caller.
     pub(crate) fn look_round(&mut self, now: u64)
-        ensures { Reseats self.old.hall self.new.hall self.old.left self.new.left }
+        ensures late { EndsLate self.old.since.items now self.old.hall self.new.hall }
+        ensures reseats { Reseats self.old.hall self.new.hall self.old.left self.new.left }
     {
         self.wants = false;
         self.partings.close_late(now);

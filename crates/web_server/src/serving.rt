@@ -1,11 +1,12 @@
 //! Many connections at once, in one thread.
 
-ghost use Rattle.std.specs.Prelude.{◌≡◌, None, replicate, IfErr, IfOk, IsOkUnless};
+ghost use Rattle.std.specs.Prelude.{◌≡◌, ◌-◌, None, true, nat_le, replicate, IfErr, IfOk, IsOkUnless};
 ghost use Rattle.base_devices.specs.Blanks.{IsBlankOf};
 ghost use Rattle.web_connection.specs.Run.{AtTick};
 ghost use Rattle.web_cli.specs.declared.fault.RunFault.TheVariants.{Listen};
 ghost use Rattle.web_turns.specs.Acts.{between};
 ghost use Rattle.web_turns.specs.Halls.{callers};
+ghost use Rattle.web_server.specs.Times.{EndsLate};
 ghost use Rattle.web_server.specs.Visits.{AnswersCallers, EndsAtOnce, Hosts, Reseats, RoundsEnd, most_of};
 
 use crate::clock::System;
@@ -41,7 +42,10 @@ struct Watch<'a, C> {
 
 impl<C: Clock> Watch<'_, C> {
     // The moment now, or the last one where the clock can't be read.
-    fn look(&mut self) -> u64 {
+    fn look(&mut self) -> u64
+        ensures now { result ≡ self.new.now }
+        ensures looked { self.new.looked ≡ self.old.looked }
+    {
         if let Ok(since) = self.start.elapsed(self.clock) {
             let seconds = since.as_secs().saturating_mul(1000);
             self.now = seconds.saturating_add(since.subsec_millis() as u64);
@@ -50,7 +54,10 @@ impl<C: Clock> Watch<'_, C> {
     }
 
     // Whether a round is over since it was asked last.
-    fn is_due(&mut self) -> bool {
+    fn is_due(&mut self) -> bool
+        ensures due { result ≡ nat_le 250 (self.old.now - self.old.looked) }
+        ensures looked { result ≡ true → self.new.looked ≡ self.old.now }
+    {
         let is_due = self.now.saturating_sub(self.looked) >= ROUND;
         if is_due {
             self.looked = self.now;
@@ -77,7 +84,9 @@ fn look_if_due<R: Clock + System + Console>(
     house: &mut House<'_, R>,
     now: u64,
 )
-    ensures { Reseats house.old.hall house.new.hall house.old.left house.new.left }
+    ensures late { nat_le 250 (watch.old.now - watch.old.looked) ≡ true
+        → EndsLate house.old.since.items now house.old.hall house.new.hall }
+    ensures reseats { Reseats house.old.hall house.new.hall house.old.left house.new.left }
 {
     if watch.is_due() {
         house.look_round(now);

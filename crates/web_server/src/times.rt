@@ -1,7 +1,7 @@
 //! How long a house waits for a caller.
 
-ghost use Rattle.std.specs.Prelude.{◌≡◌, ◌≤◌, Some, true, false, IfSome};
-ghost use Rattle.web_server.specs.Places.{MayGo};
+ghost use Rattle.std.specs.Prelude.{◌≡◌, ◌==◌, ◌&&◌, Some, nat_lt, IfSome};
+ghost use Rattle.web_server.specs.Places.{MayGo, beyond, readiness_of};
 ghost use Rattle.web_server.specs.Times.{began_after, crowd_with, is_up};
 
 use web_turns::Needs;
@@ -62,15 +62,14 @@ impl Crowd {
 
     // Whether those within a request are the greater group.
     fn is_slow(self) -> bool
-        ensures { result ≡ false → self.within ≤ self.between }
+        ensures { result ≡ nat_lt self.between self.within }
     {
         self.within > self.between
     }
 
     // Whether all have an answer underway.
     fn is_empty(self) -> bool
-        ensures between { result ≡ true → self.between ≡ 0 }
-        ensures within { result ≡ true → self.within ≡ 0 }
+        ensures { result ≡ ((self.within == 0) && (self.between == 0)) }
     {
         self.within == 0 && self.between == 0
     }
@@ -123,7 +122,9 @@ impl Since {
     /// callers are within a request than between two, nobody goes who is between two, and whose request began first goes first; else whoever has
     /// waited longest between two goes first, and after these whoever is within one. Whoever has an answer underway goes only where all have.
     pub(crate) fn readiness(self, needs: Needs, crowd: Crowd, now: u64) -> Option<u64>
-        ensures { IfSome result (λ readiness. MayGo crowd.between crowd.within needs self.began) }
+        ensures readiness { result ≡ readiness_of self needs crowd now }
+        ensures may_go { IfSome result
+            (λ readiness. MayGo crowd.between crowd.within needs self.began) }
     {
         let waited = now.saturating_sub(self.waits);
         match (needs, self.began) {
@@ -136,7 +137,9 @@ impl Since {
 }
 
 // The same of one who waits that long, beyond a grace, which so much is added to.
-fn beyond(grace: u64, more: u64, long: u64) -> Option<u64> {
+fn beyond(grace: u64, more: u64, long: u64) -> Option<u64>
+    ensures { result ≡ beyond grace more long }
+{
     if long >= grace {
         Some(more.saturating_add(long))
     } else {

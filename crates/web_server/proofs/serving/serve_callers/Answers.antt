@@ -1,4 +1,4 @@
-use Rattle.std.proofs.Common.{arith, inl, refl, subst, ◌≤◌}
+use Rattle.std.proofs.Common.{arith, inl, refl, subst}
 use Rattle.web_connection.specs.Run.{AtTick}
 use Rattle.web_turns.specs.Acts.{between}
 use Rattle.web_turns.specs.Halls.{Callers}

@@ -21,4 +21,4 @@ returns-clause-hosts g c =
     let from = between (g.T.Ticks.told c.args.ticks.now) c.args.desk.now in
     let to = between (g.T.Ticks.told c.loop-event.ticks) c.loop-event.desk in
     hosts_more S from to to _ _ _ _ _ _ c.loop-event.invariant
-    (hosts_of S to to _ _ _ _ refl (reseats_more _ _ _ _ _ _ c.look_if_due.ensures c.let_in.ensures.reseats))
+    (hosts_of S to to _ _ _ _ refl (reseats_more _ _ _ _ _ _ c.look_if_due.ensures.reseats c.let_in.ensures.reseats))
