@@ -1,6 +1,6 @@
 //! Many connections at once, in one thread.
 
-ghost use Rattle.std.specs.Prelude.{◌≡◌, ◌-◌, None, true, nat_le, replicate, IfErr, IfOk, IsOkUnless};
+ghost use Rattle.std.specs.Prelude.{◌≡◌, ◌-◌, None, false, true, nat_le, replicate, IfErr, IfOk, IsOkUnless};
 ghost use Rattle.base_devices.specs.Blanks.{IsBlankOf};
 ghost use Rattle.web_connection.specs.Run.{AtTick};
 ghost use Rattle.web_cli.specs.declared.fault.RunFault.TheVariants.{Listen};
@@ -56,7 +56,8 @@ impl<C: Clock> Watch<'_, C> {
     // Whether a round is over since it was asked last.
     fn is_due(&mut self) -> bool
         ensures due { result ≡ nat_le 250 (self.old.now - self.old.looked) }
-        ensures looked { result ≡ true → self.new.looked ≡ self.old.now }
+        ensures begins { result ≡ true → self.new.looked ≡ self.old.now }
+        ensures goes_on { result ≡ false → self.new.looked ≡ self.old.looked }
     {
         let is_due = self.now.saturating_sub(self.looked) >= ROUND;
         if is_due {
