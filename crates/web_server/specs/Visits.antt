@@ -1,50 +1,66 @@
 -- Callers at once, at one desk.
-use Rattle.std.specs.Prelude.{◌≡◌, ◌+◌, ◌≤◌, ◌⊎◌, ⊤, ℕ, zero, suc, List, [], ◌∷◌, None, Result, Ok, Err}
+use Rattle.std.specs.Prelude.{◌≡◌, ◌+◌, ◌≤◌, ◌⊎◌, ⊤, ℕ, zero, suc, List, [], ◌∷◌, ◌++◌, None, Option, Result, Ok, Err}
 use Rattle.base_values.specs.declared.answer.Answer.{Answer}
 use Rattle.base_devices.specs.declared.device.Tick.{Tick}
+use Rattle.base_devices.specs.Told.{Adds}
 use Rattle.web_http.specs.Messages.{Message}
 use Rattle.web_connection.specs.declared.failure.Failure.TheVariants as failures
 use Rattle.web_cli.specs.declared.fault.RunFault.{RunFault}
 use Rattle.web_cli.specs.declared.fault.RunFault.TheVariants as faults
+use Rattle.web_sockets.specs.Comers.{Begun}
 use Rattle.web_turns.specs.declared.turns.Next.{Next}
 use Rattle.web_turns.specs.declared.turns.Next.TheVariants as nexts
 pub use Rattle.web_turns.specs.Acts.{Between, between, seen_at}
-use Rattle.web_turns.specs.Halls.{Callers, DoesAll, Hall, LetsIn, Story, with_place}
+use Rattle.web_turns.specs.Halls.{AreAmong, Callers, DoesAll, Hall, LetsIn, Story, with_place}
 
 -- callers come and leave, one after another, and nobody has a turn
-abbrev pub Rearranges : Callers → Callers → List Next → Type 0
-Rearranges old new [] = new ≡ old
-Rearranges old new (nexts.Comes ∷ others) = (amid : Callers) × LetsIn old amid × Rearranges amid new others
-Rearranges old new (nexts.Leaves place ∷ others) = Rearranges (with_place place None old) new others
-Rearranges old new (nexts.Turn place ∷ others) = ⊥
+abbrev pub Rearranges : List Begun → Callers → Callers → List Next → Type 0
+Rearranges came old new [] = (came ≡ []) × (new ≡ old)
+Rearranges came old new (nexts.Comes ∷ others) =
+    (amid : Callers) × (first : List Begun) × (later : List Begun) × (came ≡ first ++ later) × LetsIn first old amid × Rearranges later amid new others
+Rearranges came old new (nexts.Leaves place ∷ others) = Rearranges came (with_place place None old) new others
+Rearranges came old new (nexts.Turn place ∷ others) = ⊥
 
--- callers came and left, in some order, and nobody had a turn
-pub record Rearranged (old new : Callers) : Type 0 where
+-- these callers came and some left, in some order, and nobody had a turn
+pub record Rearranged (came : List Begun) (old new : Callers) : Type 0 where
   pub order : List Next
-  pub all : Rearranges old new order
+  pub all : Rearranges came old new order
 
 -- callers come, have turns and leave, in some order
-pub record Happened {D : Type 0} (Serves : D → Tick → Message → Answer → D → Type 0) (from to : Between D) (old new : Callers) : Type 0 where
+pub record Happened {D : Type 0} (Serves : D → Tick → Message → Answer → D → Type 0) (from to : Between D) (came : List Begun) (old new : Callers) : Type 0 where
   pub order : List Next
-  pub all : DoesAll Serves from to old new order
+  pub all : DoesAll Serves from to came old new order
 
--- What a deed of a house leaves in which nobody has a turn: callers came and left, and each who came was one of those who were to be let in
--- still.
-pub record Reseats (old new : Callers) (before left : ℕ) : Type 0 where
-  pub hall : Rearranged old new
+-- nobody came, and some left
+pub record Clears (old new : Callers) : Type 0 where
+  pub hall : Rearranged [] old new
+  pub came : new.came ≡ old.came
+
+-- What a deed of a house leaves in which nobody has a turn: callers came whom the network let in, and some left; each who came was one of those who
+-- were to be let in still.
+pub record Reseats (old new : Callers) (before left : ℕ) (shown seen : Option (List Begun)) : Type 0 where
+  pub came : List Begun
+  pub told : Adds shown came seen
+  pub hall : Rearranged came old new
   pub count : new.came + left ≤ old.came + before
 
 -- the same of a deed in which callers have turns too
-pub record Hosts {D : Type 0} (Serves : D → Tick → Message → Answer → D → Type 0) (from to : Between D) (old new : Callers) (before left : ℕ) : Type 0 where
-  pub hall : Happened Serves from to old new
+pub record Hosts {D : Type 0} (Serves : D → Tick → Message → Answer → D → Type 0) (from to : Between D) (old new : Callers) (before left : ℕ) (shown seen : Option (List Begun)) : Type 0 where
+  pub came : List Begun
+  pub told : Adds shown came seen
+  pub hall : Happened Serves from to came old new
   pub count : new.came + left ≤ old.came + before
 
--- At most so many callers came, many of them at once, and each has the conversation of its own bytes.
-pub record Served {D : Type 0} (Serves : D → Tick → Message → Answer → D → Type 0) (most : ℕ) (old new : Between D) : Type 0 where
+-- At most so many callers came in, many of them at once, and each has the conversation of its own bytes. They are, in order, some of those whom the
+-- network let in.
+pub record Served {D : Type 0} (Serves : D → Tick → Message → Answer → D → Type 0) (most : ℕ) (old new : Between D) (shown seen : Option (List Begun)) : Type 0 where
   pub came : ℕ
   pub within : came ≤ most
   pub all : Story
   pub hall : Hall Serves came old new all
+  pub begun : List Begun
+  pub told : Adds shown begun seen
+  pub among : AreAmong all.firsts begun
 
 -- how many callers are let in: so many, and for 0 as many as a `u64` counts, which no house sees the end of
 abbrev pub most_of : ℕ → ℕ
@@ -68,6 +84,6 @@ RoundsEnd (Ok u) old new = ⊤
 RoundsEnd (Err fault) old new = (fault ≡ faults.Listen) ⊎ ((fault ≡ faults.Memory) × (new ≡ old))
 
 -- all of them came; or some did, and a fault ended it
-abbrev pub AnswersCallers : {D : Type 0} → (D → Tick → Message → Answer → D → Type 0) → ℕ → Between D → Between D → Result (Unit {0}) RunFault → Type 0
-AnswersCallers Serves most old new (Ok u) = Served Serves most old new
-AnswersCallers Serves most old new (Err fault) = (served : Served Serves most old new) × EndsEarly fault served.came
+abbrev pub AnswersCallers : {D : Type 0} → (D → Tick → Message → Answer → D → Type 0) → ℕ → Between D → Between D → Option (List Begun) → Option (List Begun) → Result (Unit {0}) RunFault → Type 0
+AnswersCallers Serves most old new shown seen (Ok u) = Served Serves most old new shown seen
+AnswersCallers Serves most old new shown seen (Err fault) = (served : Served Serves most old new shown seen) × EndsEarly fault served.came

@@ -1,33 +1,27 @@
 //! A house that is open: its callers, and when they have to go.
 
-ghost use Rattle.std.specs.Prelude.{◌≡◌, ◌+◌, ◌<◌, ◌≤◌, None, true, replicate, slice_get, IfOk, IsOkUnless};
+ghost use Rattle.std.specs.Prelude.{◌≡◌, ◌+◌, ◌<◌, ◌≤◌, [], ◌∷◌, None, true, replicate, slice_get, IfOk, IsOkUnless};
 ghost use Rattle.web_connection.specs.Run.{AtTick};
 ghost use Rattle.web_cli.specs.declared.fault.RunFault.TheVariants.{Listen};
 ghost use Rattle.web_turns.specs.Acts.{between};
-ghost use Rattle.web_turns.specs.Halls.{IsFree, at_place, callers, place_needs, with_place};
+ghost use Rattle.web_turns.specs.Halls.{IsFree, LetsIn, at_place, callers, place_needs, with_place};
 ghost use Rattle.web_server.specs.Places.{GoesFirst, MakesRoom, NobodyIsThere, crowd_at, crowd_to, readiness_at};
 ghost use Rattle.web_server.specs.Times.{EndsLate, is_late, stays};
-ghost use Rattle.web_server.specs.Visits.{Hosts, Rearranged, Reseats};
+ghost use Rattle.web_server.specs.Visits.{Clears, Hosts, Rearranged, Reseats};
+ghost use Rattle.web_sockets.specs.Comers.{begun};
 
 use crate::clock::System;
-use crate::door::{Comer, next_comer};
 use crate::log::{Log, Parted};
 use crate::noted::Attended;
-use crate::parting::Partings;
 use crate::times::{Crowd, Since};
 use base_devices::{Device, Ticks};
-use mio::net::{TcpListener, TcpStream};
-use mio::{Interest, Registry, Token};
 use std::alloc::{AllocError, Global};
 use std::sync::ledger::Ledger;
 use std::time::Clock;
 use web_cli::{Console, RunFault};
 use web_connection::{Desk, Piece};
-use web_sockets::Peer;
+use web_sockets::{Comer, Ends, Event, Network};
 use web_turns::{Hall, Needs};
-
-/// Under which name events of the listener come.
-pub(crate) const DOOR: Token = Token(usize::MAX);
 
 /// How many callers are there at once at most.
 pub(crate) const PLACES: usize = 128;
@@ -37,13 +31,10 @@ const AT_ONCE: u32 = 16;
 
 /// A house that is open.
 #[derive(Drop)]
-pub(crate) struct House<'a, R> {
+pub(crate) struct House<'a, R, E: Ends> {
     log: &'a Log<'a, R>,
-    registry: &'a Registry,
-    listener: TcpListener,
-    hall: Hall<Peer<'a>>,
+    hall: Hall<E>,
     since: Vec<Since>,
-    partings: Partings,
     // How many more callers are let in.
     left: u64,
     // Whether somebody may be at the door.
@@ -52,28 +43,22 @@ pub(crate) struct House<'a, R> {
     wants: bool,
 }
 
-impl<'a, R: Clock + System + Console> House<'a, R> {
+impl<'a, R: Clock + System + Console, E: Ends> House<'a, R, E> {
     /// A house into which nobody came yet.
     pub(crate) fn new(
         alloc: Global,
         log: &'a Log<'a, R>,
-        registry: &'a Registry,
-        listener: TcpListener,
         left: u64,
     ) -> Result<Self, AllocError>
         ensures hall { IfOk result (λ house. house.hall ≡ callers 0 (replicate 128 None)) }
         ensures left { IfOk result (λ house. house.left ≡ left) }
     {
         let hall = Hall::new(alloc, PLACES)?;
-        let partings = Partings::new(alloc, PLACES)?;
         let since = vec![in alloc; Since::new(0); PLACES]?;
         Ok(House {
             log,
-            registry,
-            listener,
             hall,
             since,
-            partings,
             left,
             knocks: true,
             wants: false,
@@ -81,7 +66,7 @@ impl<'a, R: Clock + System + Console> House<'a, R> {
     }
 
     // Whether no caller is there, and no connection that ended either.
-    fn is_empty(&self) -> bool
+    fn is_empty<N: Network<E>>(&self, network: &N) -> bool
         ensures { result ≡ true → NobodyIsThere self.now.hall }
     {
         for place in 0..PLACES {
@@ -89,15 +74,15 @@ impl<'a, R: Clock + System + Console> House<'a, R> {
                 return false;
             }
         }
-        self.partings.is_empty()
+        network.is_quiet()
     }
 
     /// Whether all who were to be let in have come and gone.
-    pub(crate) fn is_over(&self) -> bool
+    pub(crate) fn is_over<N: Network<E>>(&self, network: &N) -> bool
         ensures left { result ≡ true → self.now.left ≡ 0 }
         ensures nobody { result ≡ true → NobodyIsThere self.now.hall }
     {
-        self.left == 0 && self.is_empty()
+        self.left == 0 && self.is_empty(network)
     }
 
     /// Whether somebody may be at the door for whom there is a place, or one whose caller has to go.
@@ -119,16 +104,18 @@ impl<'a, R: Clock + System + Console> House<'a, R> {
     }
 
     // The caller at a place leaves.
-    #[tactic(auto, using(crate::proofs::VisitLemmas::rearranged_leaves, crate::proofs::VisitLemmas::rearranged_none))]
-    fn part(&mut self, place: usize, why: Parted, now: u64)
+    #[tactic(auto, using(crate::proofs::VisitLemmas::clears_leaves, crate::proofs::VisitLemmas::clears_none))]
+    fn part<N: Network<E>>(&mut self, network: &mut N, place: usize, why: Parted, now: u64)
         ensures leaves { self.new.hall ≡ with_place place None self.old.hall }
+        ensures listens { N.listens network.new ≡ N.listens network.old }
         ensures since { self.new.since.items ≡ self.old.since.items }
-        ensures reseats { Reseats self.old.hall self.new.hall self.old.left self.new.left }
+        ensures clears { Clears self.old.hall self.new.hall }
+        ensures left { self.new.left ≡ self.old.left }
+        ensures came { N.came network.new ≡ N.came network.old }
     {
         self.log.tell_parted(self.hall.number(place), why);
-        if let Some(peer) = self.hall.leave(place) {
-            let Peer { stream, .. } = peer;
-            self.partings.add(stream, self.registry, PLACES, now);
+        if let Some(ends) = self.hall.leave(place) {
+            network.part(ends, now);
         }
     }
 
@@ -184,31 +171,20 @@ impl<'a, R: Clock + System + Console> House<'a, R> {
     }
 
     // A caller takes a place that is free.
-    #[tactic(auto, using(crate::proofs::VisitLemmas::rearranged_seated, crate::proofs::VisitLemmas::rearranged_none))]
-    fn seat(&mut self, alloc: Global, place: usize, stream: TcpStream, now: u64)
+    #[tactic(auto, using(crate::proofs::VisitLemmas::lets_one, crate::proofs::VisitLemmas::lets_nobody))]
+    fn seat<N: Network<E>>(&mut self, alloc: Global, network: &mut N, place: usize, ends: E, now: u64)
         requires { IsFree place self.old.hall }
-        ensures hall { Rearranged self.old.hall self.new.hall }
+        ensures listens { N.listens network.new ≡ N.listens network.old }
+        ensures lets { LetsIn (begun (E.left ends) (E.taken ends) ∷ []) self.old.hall self.new.hall }
+        ensures came { N.came network.new ≡ N.came network.old }
         ensures left { self.new.left ≡ self.old.left }
-        ensures came { self.new.hall.came ≤ self.old.hall.came + 1 }
+        ensures count { self.new.hall.came ≤ self.old.hall.came + 1 }
     {
-        let mut stream = stream;
-        let token = Token(place);
-        if stream.set_nodelay(true).is_err() {
+        let mut ends = ends;
+        if network.seat(place, &mut ends).is_err() {
             return;
         }
-        if self
-            .registry
-            .register(&mut stream, token, Interest::READABLE)
-            .is_err()
-        {
-            return;
-        }
-        let peer = Peer {
-            stream,
-            registry: self.registry,
-            token,
-        };
-        if self.hall.let_in(alloc, place, peer).is_ok() {
+        if self.hall.let_in(alloc, place, ends).is_ok() {
             if let Some(since) = self.since.get_mut(place) {
                 *since = Since::new(now);
             }
@@ -216,39 +192,47 @@ impl<'a, R: Clock + System + Console> House<'a, R> {
     }
 
     // Where no place is free the caller leaves who has to go first.
-    #[tactic(auto, using(crate::proofs::VisitLemmas::rearranged_none))]
-    fn make_room(&mut self, now: u64)
+    #[tactic(auto, using(crate::proofs::VisitLemmas::clears_none))]
+    fn make_room<N: Network<E>>(&mut self, network: &mut N, now: u64)
+        ensures listens { N.listens network.new ≡ N.listens network.old }
         ensures room { MakesRoom (readiness_at self.old.since.items self.old.hall now)
             self.old.hall self.new.hall }
-        ensures reseats { Reseats self.old.hall self.new.hall self.old.left self.new.left }
+        ensures clears { Clears self.old.hall self.new.hall }
+        ensures left { self.new.left ≡ self.old.left }
+        ensures came { N.came network.new ≡ N.came network.old }
     {
         if self.hall.free_place().is_none() {
             if let Some(place) = self.first_to_go(now) {
-                self.part(place, Parted::GaveWay, now);
+                self.part(network, place, Parted::GaveWay, now);
             }
         }
     }
 
     // A caller comes in.
-    #[tactic(auto, using(crate::proofs::VisitLemmas::rearranged_more))]
-    fn welcome(&mut self, alloc: Global, stream: TcpStream, now: u64)
+    #[tactic(auto, using(crate::proofs::VisitLemmas::cleared_comes, crate::proofs::VisitLemmas::lets_nobody))]
+    fn welcome<N: Network<E>>(&mut self, alloc: Global, network: &mut N, ends: E, now: u64)
         requires { 0 < self.old.left }
-        ensures { Reseats self.old.hall self.new.hall self.old.left self.new.left }
+        ensures listens { N.listens network.new ≡ N.listens network.old }
+        ensures comes { Rearranged (begun (E.left ends) (E.taken ends) ∷ [])
+            self.old.hall self.new.hall }
+        ensures count { self.new.hall.came + self.new.left
+            ≤ self.old.hall.came + self.old.left }
+        ensures came { N.came network.new ≡ N.came network.old }
     {
         self.left -= 1;
-        self.make_room(now);
+        self.make_room(network, now);
         if let Some(place) = self.hall.free_place() {
-            self.seat(alloc, place, stream, now);
+            self.seat(alloc, network, place, ends, now);
         }
     }
 
     // Lets nobody in till the next look round, where somebody is there whose leaving frees what the system lacks.
-    fn wait_for_files(&mut self) -> Result<bool, RunFault>
+    fn wait_for_files<N: Network<E>>(&mut self, network: &N) -> Result<bool, RunFault>
         ensures hall { self.new.hall ≡ self.old.hall }
         ensures left { self.new.left ≡ self.old.left }
         ensures ends { IsOkUnless result Listen }
     {
-        if self.is_empty() {
+        if self.is_empty(network) {
             return Err(RunFault::Listen);
         }
         self.wants = true;
@@ -256,15 +240,22 @@ impl<'a, R: Clock + System + Console> House<'a, R> {
     }
 
     // Lets one in. Whether another one may be at the door.
-    #[tactic(auto, using(crate::proofs::VisitLemmas::rearranged_none))]
-    fn let_one_in(&mut self, alloc: Global, now: u64) -> Result<bool, RunFault>
+    #[tactic(auto, using(crate::proofs::VisitLemmas::reseats_of, crate::proofs::VisitLemmas::reseats_clears, crate::proofs::VisitLemmas::clears_none))]
+    fn let_one_in<N: Network<E>>(
+        &mut self,
+        alloc: Global,
+        network: &mut N,
+        now: u64,
+    ) -> Result<bool, RunFault>
         requires { 0 < self.old.left }
-        ensures reseats { Reseats self.old.hall self.new.hall self.old.left self.new.left }
+        ensures listens { N.listens network.new ≡ N.listens network.old }
+        ensures reseats { Reseats self.old.hall self.new.hall self.old.left self.new.left
+            (N.came network.old) (N.came network.new) }
         ensures ends { IsOkUnless result Listen }
     {
-        match next_comer(&self.listener) {
-            Ok(Comer::Here(stream)) => {
-                self.welcome(alloc, stream, now);
+        match network.next() {
+            Ok(Comer::Here(ends)) => {
+                self.welcome(alloc, network, ends, now);
                 Ok(true)
             }
             Ok(Comer::Gone) => {
@@ -275,21 +266,28 @@ impl<'a, R: Clock + System + Console> House<'a, R> {
                 self.knocks = false;
                 Ok(false)
             }
-            Ok(Comer::Wants) => self.wait_for_files(),
-            Err(fault) => Err(fault),
+            Ok(Comer::Wants) => self.wait_for_files(network),
+            Err(_) => Err(RunFault::Listen),
         }
     }
 
     /// Lets in who is at the door, as long as there is a place, or one whose caller has to go.
-    pub(crate) fn let_in(&mut self, alloc: Global, now: u64) -> Result<(), RunFault>
-        ensures reseats { Reseats self.old.hall self.new.hall self.old.left self.new.left }
+    pub(crate) fn let_in<N: Network<E>>(
+        &mut self,
+        alloc: Global,
+        network: &mut N,
+        now: u64,
+    ) -> Result<(), RunFault>
+        ensures listens { N.listens network.new ≡ N.listens network.old }
+        ensures reseats { Reseats self.old.hall self.new.hall self.old.left self.new.left
+            (N.came network.old) (N.came network.new) }
         ensures ends { IsOkUnless result Listen }
     {
         for _ in 0..AT_ONCE {
             if !self.has_comer(now) {
                 break;
             }
-            match self.let_one_in(alloc, now) {
+            match self.let_one_in(alloc, network, now) {
                 Ok(true) => {}
                 Ok(false) => break,
                 Err(fault) => return Err(fault),
@@ -299,22 +297,26 @@ impl<'a, R: Clock + System + Console> House<'a, R> {
     }
 
     // Behind a turn a caller whose conversation is over leaves, and any other one waits for what it needs.
-    #[tactic(auto, using(crate::proofs::VisitLemmas::rearranged_none))]
-    fn note(&mut self, place: usize, before: Needs, now: u64)
-        ensures { Reseats self.old.hall self.new.hall self.old.left self.new.left }
+    #[tactic(auto, using(crate::proofs::VisitLemmas::clears_none))]
+    fn note<N: Network<E>>(&mut self, network: &mut N, place: usize, before: Needs, now: u64)
+        ensures listens { N.listens network.new ≡ N.listens network.old }
+        ensures clears { Clears self.old.hall self.new.hall }
+        ensures left { self.new.left ≡ self.old.left }
+        ensures came { N.came network.new ≡ N.came network.old }
     {
         let after = self.hall.needs(place);
         if after == Needs::Nothing {
-            self.part(place, Parted::Done, now);
+            self.part(network, place, Parted::Done, now);
         } else if let Some(since) = self.since.get_mut(place) {
             *since = since.behind(before, after, now);
         }
     }
 
     // A turn of the caller at a place.
-    fn turn<L: Ledger, M: Ledger, T: Ticks, D: Desk + Attended>(
+    fn turn<N: Network<E>, L: Ledger, M: Ledger, T: Ticks, D: Desk + Attended>(
         &mut self,
         alloc: Global,
+        network: &mut N,
         place: usize,
         piece: &mut Piece,
         page: &mut Device<Vec<u8>, L, M>,
@@ -322,9 +324,11 @@ impl<'a, R: Clock + System + Console> House<'a, R> {
         desk: &mut D,
         now: u64,
     )
-        ensures { Hosts (AtTick T.reads D.serves)
+        ensures listens { N.listens network.new ≡ N.listens network.old }
+        ensures hosts { Hosts (AtTick T.reads D.serves)
             (between (T.told ticks.old) desk.old) (between (T.told ticks.new) desk.new)
-            self.old.hall self.new.hall self.old.left self.new.left }
+            self.old.hall self.new.hall self.old.left self.new.left
+            (N.came network.old) (N.came network.new) }
     {
         let before = self.hall.needs(place);
         if before == Needs::Nothing {
@@ -333,7 +337,7 @@ impl<'a, R: Clock + System + Console> House<'a, R> {
         let number = self.hall.number(place);
         desk.attend(number.unwrap_or(0));
         match self.hall.turn(alloc, place, piece, page, ticks, desk) {
-            Ok(()) => self.note(place, before, now),
+            Ok(()) => self.note(network, place, before, now),
             Err(_) => {
                 self.log.tell_parted(number, Parted::Unreachable);
                 let _ = self.hall.leave(place);
@@ -342,29 +346,31 @@ impl<'a, R: Clock + System + Console> House<'a, R> {
     }
 
     /// What happened: somebody is at the door, a caller has a turn, or a connection that ended is read.
-    pub(crate) fn hear<L: Ledger, M: Ledger, T: Ticks, D: Desk + Attended>(
+    pub(crate) fn hear<N: Network<E>, L: Ledger, M: Ledger, T: Ticks, D: Desk + Attended>(
         &mut self,
         alloc: Global,
-        token: Token,
+        network: &mut N,
+        event: Event,
         piece: &mut Piece,
         page: &mut Device<Vec<u8>, L, M>,
         ticks: &mut T,
         desk: &mut D,
         now: u64,
     )
-        ensures { Hosts (AtTick T.reads D.serves)
+        ensures listens { N.listens network.new ≡ N.listens network.old }
+        ensures hosts { Hosts (AtTick T.reads D.serves)
             (between (T.told ticks.old) desk.old) (between (T.told ticks.new) desk.new)
-            self.old.hall self.new.hall self.old.left self.new.left }
+            self.old.hall self.new.hall self.old.left self.new.left
+            (N.came network.old) (N.came network.new) }
     {
-        let place = token.0;
-        if token == DOOR {
-            self.knock();
-        } else if place < PLACES {
-            self.turn(alloc, place, piece, page, ticks, desk, now);
-        } else {
-            let bytes = &mut piece.bytes;
-            self.partings
-                .hear(place - PLACES, self.registry, token, bytes);
+        match event {
+            Event::Door => self.knock(),
+            Event::Place(place) => {
+                self.turn(alloc, network, place, piece, page, ticks, desk, now);
+            }
+            Event::Parted(parted) => {
+                network.see_off(parted, &mut piece.bytes);
+            }
         }
     }
 
@@ -380,28 +386,34 @@ impl<'a, R: Clock + System + Console> House<'a, R> {
     }
 
     // The caller at a place leaves if its time is up.
-    #[tactic(auto, using(crate::proofs::VisitLemmas::rearranged_none, crate::proofs::PlaceLemmas::with_same))]
-    fn end_late(&mut self, place: usize, now: u64)
+    #[tactic(auto, using(crate::proofs::VisitLemmas::clears_none, crate::proofs::PlaceLemmas::with_same))]
+    fn end_late<N: Network<E>>(&mut self, network: &mut N, place: usize, now: u64)
+        ensures listens { N.listens network.new ≡ N.listens network.old }
         ensures ends { self.new.hall ≡ with_place place
             (stays (slice_get self.old.since.items place) now (at_place place self.old.hall))
             self.old.hall }
         ensures since { self.new.since.items ≡ self.old.since.items }
-        ensures reseats { Reseats self.old.hall self.new.hall self.old.left self.new.left }
+        ensures clears { Clears self.old.hall self.new.hall }
+        ensures left { self.new.left ≡ self.old.left }
+        ensures came { N.came network.new ≡ N.came network.old }
     {
         if self.is_late(place, now) {
-            self.part(place, Parted::Late, now);
+            self.part(network, place, Parted::Late, now);
         }
     }
 
     /// Ends what takes too long, and looks at the door again where there was no file for a caller.
-    pub(crate) fn look_round(&mut self, now: u64)
+    pub(crate) fn look_round<N: Network<E>>(&mut self, network: &mut N, now: u64)
+        ensures listens { N.listens network.new ≡ N.listens network.old }
         ensures late { EndsLate self.old.since.items now self.old.hall self.new.hall }
-        ensures reseats { Reseats self.old.hall self.new.hall self.old.left self.new.left }
+        ensures clears { Clears self.old.hall self.new.hall }
+        ensures left { self.new.left ≡ self.old.left }
+        ensures came { N.came network.new ≡ N.came network.old }
     {
         self.wants = false;
-        self.partings.close_late(now);
+        network.look_round(now);
         for place in 0..PLACES {
-            self.end_late(place, now);
+            self.end_late(network, place, now);
         }
     }
 }

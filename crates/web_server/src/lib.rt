@@ -2,18 +2,19 @@
 #![tactic(auto)]
 
 pub mod clock;
-mod door;
 mod house;
 pub mod listening;
 pub mod log;
 pub mod noted;
 mod parting;
 pub mod serving;
+pub mod street;
 mod times;
 
 pub use clock::{ClockTicks, System, read_tick};
-pub use listening::serve_at;
+pub use listening::{serve_at, serve_street};
 pub use log::Log;
 pub use noted::{Attended, Noted};
 pub use serving::serve_callers;
+pub use street::Street;
 pub use web_callers::laws;

@@ -1,6 +1,6 @@
 //! A desk at an address.
 
-ghost use Rattle.std.specs.Prelude.{None};
+ghost use Rattle.std.specs.Prelude.{◌≡◌, None, Some, OnOk};
 ghost use Rattle.base_devices.specs.Blanks.{IsBlankOf};
 ghost use Rattle.web_http.specs.Written.{writer_page};
 ghost use Rattle.web_connection.specs.Run.{AtTick};
@@ -12,8 +12,10 @@ use crate::clock::{ClockTicks, System};
 use crate::log::Log;
 use crate::noted::Attended;
 use crate::serving::serve_callers;
+use crate::street::Street;
 use base_devices::Drain;
 use base_values::Steps;
+use mio::Poll;
 use std::alloc::Global;
 use std::marker::Brand;
 use std::net::{Net, TcpListener, TcpStream};
@@ -21,31 +23,80 @@ use std::sync::ledger::{Blank, Ledger};
 use std::time::Clock;
 use web_cli::{Console, Place, RunFault, end_said, say};
 use web_connection::Desk;
+use web_sockets::{Ends, Network};
 
 // Answers the callers of a listener by the system's clock, with a ledger for the failures of its ticks.
-fn serve_listener<M: Ledger, R: Net + Clock + System + Console, D: Desk + Attended>(
+fn serve_network<
+    M: Ledger,
+    R: Clock + System + Console,
+    E: Ends,
+    N: Network<E>,
+    D: Desk + Attended,
+>(
     rt: &R,
     alloc: Global,
     log: &Log<'_, R>,
-    listener: TcpListener,
+    network: &mut N,
     connections: u64,
     desk: &mut D,
     blank: Blank,
 ) -> Result<(), RunFault>
     requires blank { IsBlankOf M.Ledger blank }
-    ensures { AnswersCallers (AtTick (IsRead R.shows R.gives) D.serves) (most_of connections)
+    ensures listens { N.listens network.new ≡ N.listens network.old }
+    ensures answers { AnswersCallers (AtTick (IsRead R.shows R.gives) D.serves) (most_of connections)
         (between None desk.old) (between None desk.new)
-        result }
+        (N.came network.old) (N.came network.new) result }
 {
     let failures = Steps::<M>::new(blank);
     let mut ticks = ClockTicks::<R, M> { rt, failures };
-    serve_callers(alloc, rt, log, listener, connections, &mut ticks, desk)
+    serve_callers(alloc, rt, log, network, connections, &mut ticks, desk)
 }
 
 /// Listens at an address, says so, and answers the callers that come, many of them at once, by the system's clock and its draws. Faults: 81
 /// where the address can't be listened at, and then nothing is said; 83 where that couldn't be said, and then nobody is answered; 81 and 6
 /// as `serve_callers`.
 pub fn serve_at<
+    R: Clock + System + Console,
+    E: Ends,
+    N: Network<E>,
+    D: Desk + Attended,
+    W: Drain,
+>(
+    rt: &R,
+    alloc: Global,
+    log: &Log<'_, R>,
+    network: &mut N,
+    place: &Place<'_>,
+    desk: &mut D,
+    writer: &mut W,
+) -> Result<(), RunFault>
+    ensures said { TellsListening place.now.text.now
+        (writer_page W.Drain writer.old) (writer_page W.Drain writer.new) result }
+    ensures listens { OnOk result (N.listens network.new ≡ Some place.now.addr) }
+    ensures leads { AnswersCallers (AtTick (IsRead R.shows R.gives) D.serves)
+        (most_of place.now.connections)
+        (between None desk.old) (between None desk.new)
+        (N.came network.old) (N.came network.new) result }
+{
+    let Ok(()) = network.listen(place.addr) else {
+        return Err(RunFault::Listen);
+    };
+    match say(writer, b"listening on ", place.text.as_bytes()) {
+        Ok(()) => serve_network::<Brand, R, E, N, D>(
+            rt,
+            alloc,
+            log,
+            network,
+            place.connections,
+            desk,
+            Blank::new(1),
+        ),
+        Err(refused) => end_said(Err(refused)),
+    }
+}
+
+/// The same over the system's network. Faults: 81 and 6 too where it can't be opened, and then nothing is said.
+pub fn serve_street<
     R: Net<Listener = TcpListener, Stream = TcpStream> + Clock + System + Console,
     D: Desk + Attended,
     W: Drain,
@@ -62,21 +113,16 @@ pub fn serve_at<
     ensures leads { AnswersCallers (AtTick (IsRead R.shows R.gives) D.serves)
         (most_of place.now.connections)
         (between None desk.old) (between None desk.new)
-        result }
+        None None result }
 {
-    let Ok(listener) = rt.bind(place.addr) else {
+    let Ok(poll) = Poll::new(rt) else {
         return Err(RunFault::Listen);
     };
-    match say(writer, b"listening on ", place.text.as_bytes()) {
-        Ok(()) => serve_listener::<Brand, R, D>(
-            rt,
-            alloc,
-            log,
-            listener,
-            place.connections,
-            desk,
-            Blank::new(1),
-        ),
-        Err(refused) => end_said(Err(refused)),
+    let Ok(registry) = poll.registry().try_clone() else {
+        return Err(RunFault::Listen);
+    };
+    match Street::new(alloc, rt, poll, &registry) {
+        Ok(mut street) => serve_at(rt, alloc, log, &mut street, place, desk, writer),
+        Err(_) => Err(RunFault::Memory),
     }
 }

@@ -7,26 +7,24 @@ ghost use Rattle.web_cli.specs.declared.fault.RunFault.TheVariants.{Listen};
 ghost use Rattle.web_turns.specs.Acts.{between};
 ghost use Rattle.web_turns.specs.Halls.{callers};
 ghost use Rattle.web_server.specs.Times.{EndsLate};
-ghost use Rattle.web_server.specs.Visits.{AnswersCallers, EndsAtOnce, Hosts, Reseats, RoundsEnd, most_of};
+ghost use Rattle.web_server.specs.Visits.{AnswersCallers, Clears, Hosts, RoundsEnd, most_of};
 
 use crate::clock::System;
-use crate::house::{DOOR, House};
+use crate::house::House;
 use crate::log::Log;
 use crate::noted::Attended;
 use base_devices::{Device, Ticks};
 use base_values::Steps;
-use mio::net::TcpListener as Listener;
-use mio::{Events, Interest, Poll, Registry};
 use std::alloc::Global;
 use std::marker::Brand;
-use std::net::{Net, TcpListener};
 use std::sync::ledger::{Blank, Ledger};
 use std::time::{Clock, Duration, Instant};
 use web_cli::{Console, RunFault};
 use web_connection::{Desk, Piece};
+use web_sockets::{Ends, Network};
 
-/// How many events are heard at once at most.
-const EVENTS: usize = 256;
+/// How much is heard at most before a house looks round.
+const AT_ONCE: u32 = 256;
 
 /// How long a house waits for an event at most, in milliseconds.
 const ROUND: u64 = 250;
@@ -79,76 +77,103 @@ fn most_of(connections: u64) -> u64
 }
 
 // Looks round where that is due.
-#[tactic(auto, using(crate::proofs::VisitLemmas::rearranged_none))]
-fn look_if_due<R: Clock + System + Console>(
+#[tactic(auto, using(crate::proofs::VisitLemmas::clears_none))]
+fn look_if_due<R: Clock + System + Console, E: Ends, N: Network<E>>(
     watch: &mut Watch<'_, R>,
-    house: &mut House<'_, R>,
+    house: &mut House<'_, R, E>,
+    network: &mut N,
     now: u64,
 )
+    ensures listens { N.listens network.new ≡ N.listens network.old }
     ensures late { nat_le 250 (watch.old.now - watch.old.looked) ≡ true
         → EndsLate house.old.since.items now house.old.hall house.new.hall }
-    ensures reseats { Reseats house.old.hall house.new.hall house.old.left house.new.left }
+    ensures clears { Clears house.old.hall house.new.hall }
+    ensures left { house.new.left ≡ house.old.left }
+    ensures came { N.came network.new ≡ N.came network.old }
 {
     if watch.is_due() {
-        house.look_round(now);
+        house.look_round(network, now);
+    }
+}
+
+// Hears all that was to be heard.
+#[tactic(auto, using(crate::proofs::VisitLemmas::happened_none))]
+fn hear_all<R: Clock + System + Console, E: Ends, N: Network<E>, L: Ledger, M: Ledger, T: Ticks, D: Desk + Attended>(
+    alloc: Global,
+    network: &mut N,
+    house: &mut House<'_, R, E>,
+    piece: &mut Piece,
+    page: &mut Device<Vec<u8>, L, M>,
+    ticks: &mut T,
+    desk: &mut D,
+    now: u64,
+)
+    ensures listens { N.listens network.new ≡ N.listens network.old }
+    ensures hosts { Hosts (AtTick T.reads D.serves)
+        (between (T.told ticks.old) desk.old) (between (T.told ticks.new) desk.new)
+        house.old.hall house.new.hall house.old.left house.new.left
+        (N.came network.old) (N.came network.new) }
+{
+    for _ in 0..AT_ONCE {
+        match network.event() {
+            Some(event) => house.hear(alloc, network, event, piece, page, ticks, desk, now),
+            None => break,
+        }
     }
 }
 
 // One round: hears what happened, and lets in who is at the door.
 #[tactic(auto, using(crate::proofs::VisitLemmas::happened_none))]
-fn serve_round<R: Clock + System + Console, L: Ledger, M: Ledger, T: Ticks, D: Desk + Attended>(
+fn serve_round<R: Clock + System + Console, E: Ends, N: Network<E>, L: Ledger, M: Ledger, T: Ticks, D: Desk + Attended>(
     alloc: Global,
     watch: &mut Watch<'_, R>,
-    poll: &mut Poll,
-    events: &mut Events<Global>,
-    house: &mut House<'_, R>,
+    network: &mut N,
+    house: &mut House<'_, R, E>,
     piece: &mut Piece,
     page: &mut Device<Vec<u8>, L, M>,
     ticks: &mut T,
     desk: &mut D,
 ) -> Result<(), RunFault>
+    ensures listens { N.listens network.new ≡ N.listens network.old }
     ensures hosts { Hosts (AtTick T.reads D.serves)
         (between (T.told ticks.old) desk.old) (between (T.told ticks.new) desk.new)
-        house.old.hall house.new.hall house.old.left house.new.left }
+        house.old.hall house.new.hall house.old.left house.new.left
+        (N.came network.old) (N.came network.new) }
     ensures ends { IsOkUnless result Listen }
 {
     let most = if house.has_comer(watch.now) { 0 } else { ROUND };
-    if poll
-        .poll(events, Some(Duration::from_millis(most)))
-        .is_err()
-    {
+    if network.wait(most).is_err() {
         return Err(RunFault::Listen);
     }
     let now = watch.look();
-    for event in &*events {
-        house.hear(alloc, event.token(), piece, page, ticks, desk, now);
-    }
-    look_if_due(watch, house, now);
-    house.let_in(alloc, now)
+    hear_all(alloc, network, house, piece, page, ticks, desk, now);
+    look_if_due(watch, house, network, now);
+    house.let_in(alloc, network, now)
 }
 
 // Rounds, one after another, till all who were to be let in have come and gone.
-fn serve_rounds<R: Clock + System + Console, L: Ledger, M: Ledger, T: Ticks, D: Desk + Attended>(
+fn serve_rounds<R: Clock + System + Console, E: Ends, N: Network<E>, L: Ledger, M: Ledger, T: Ticks, D: Desk + Attended>(
     alloc: Global,
     watch: &mut Watch<'_, R>,
-    poll: &mut Poll,
-    events: &mut Events<Global>,
-    house: &mut House<'_, R>,
+    network: &mut N,
+    house: &mut House<'_, R, E>,
     piece: &mut Piece,
     page: &mut Device<Vec<u8>, L, M>,
     ticks: &mut T,
     desk: &mut D,
 ) -> Result<(), RunFault>
+    ensures listens { N.listens network.new ≡ N.listens network.old }
     ensures hosts { Hosts (AtTick T.reads D.serves)
         (between (T.told ticks.old) desk.old) (between (T.told ticks.new) desk.new)
-        house.old.hall house.new.hall house.old.left house.new.left }
+        house.old.hall house.new.hall house.old.left house.new.left
+        (N.came network.old) (N.came network.new) }
     ensures ends { IsOkUnless result Listen }
 {
     for _ in 0..u64::MAX {
-        if house.is_over() {
+        if house.is_over(network) {
             break;
         }
-        match serve_round(alloc, watch, poll, events, house, piece, page, ticks, desk) {
+        match serve_round(alloc, watch, network, house, piece, page, ticks, desk) {
             Ok(()) => {}
             Err(fault) => return Err(fault),
         }
@@ -158,31 +183,29 @@ fn serve_rounds<R: Clock + System + Console, L: Ledger, M: Ledger, T: Ticks, D: 
 
 // The same with room for events and for what one read gives.
 #[tactic(auto, using(crate::proofs::VisitLemmas::rounds_end, crate::proofs::VisitLemmas::happened_none))]
-fn serve_house<R: Clock + System + Console, L: Ledger, M: Ledger, T: Ticks, D: Desk + Attended>(
+fn serve_house<R: Clock + System + Console, E: Ends, N: Network<E>, L: Ledger, M: Ledger, T: Ticks, D: Desk + Attended>(
     alloc: Global,
     watch: &mut Watch<'_, R>,
-    poll: &mut Poll,
-    house: &mut House<'_, R>,
+    network: &mut N,
+    house: &mut House<'_, R, E>,
     page: &mut Device<Vec<u8>, L, M>,
     ticks: &mut T,
     desk: &mut D,
 ) -> Result<(), RunFault>
+    ensures listens { N.listens network.new ≡ N.listens network.old }
     ensures hosts { Hosts (AtTick T.reads D.serves)
         (between (T.told ticks.old) desk.old) (between (T.told ticks.new) desk.new)
-        house.old.hall house.new.hall house.old.left house.new.left }
+        house.old.hall house.new.hall house.old.left house.new.left
+        (N.came network.old) (N.came network.new) }
     ensures ends { RoundsEnd result house.old.hall house.new.hall }
 {
-    let Ok(mut events) = Events::with_capacity(alloc, EVENTS) else {
-        return Err(RunFault::Memory);
-    };
     let Ok(mut piece) = Piece::new(alloc) else {
         return Err(RunFault::Memory);
     };
     serve_rounds(
         alloc,
         watch,
-        poll,
-        &mut events,
+        network,
         house,
         &mut piece,
         page,
@@ -192,20 +215,22 @@ fn serve_house<R: Clock + System + Console, L: Ledger, M: Ledger, T: Ticks, D: D
 }
 
 // The same with a ledger for each count of the page.
-fn serve_with<R: Clock + System + Console, L: Ledger, M: Ledger, T: Ticks, D: Desk + Attended>(
+fn serve_with<R: Clock + System + Console, E: Ends, N: Network<E>, L: Ledger, M: Ledger, T: Ticks, D: Desk + Attended>(
     alloc: Global,
     watch: &mut Watch<'_, R>,
-    poll: &mut Poll,
-    house: &mut House<'_, R>,
+    network: &mut N,
+    house: &mut House<'_, R, E>,
     ticks: &mut T,
     desk: &mut D,
     blanks: (Blank, Blank),
 ) -> Result<(), RunFault>
     requires calls { IsBlankOf L.Ledger blanks.0 }
     requires failures { IsBlankOf M.Ledger blanks.1 }
+    ensures listens { N.listens network.new ≡ N.listens network.old }
     ensures hosts { Hosts (AtTick T.reads D.serves)
         (between (T.told ticks.old) desk.old) (between (T.told ticks.new) desk.new)
-        house.old.hall house.new.hall house.old.left house.new.left }
+        house.old.hall house.new.hall house.old.left house.new.left
+        (N.came network.old) (N.came network.new) }
     ensures ends { RoundsEnd result house.old.hall house.new.hall }
 {
     let mut page = Device {
@@ -213,55 +238,28 @@ fn serve_with<R: Clock + System + Console, L: Ledger, M: Ledger, T: Ticks, D: De
         calls: Steps::<L>::new(blanks.0),
         failures: Steps::<M>::new(blanks.1),
     };
-    serve_house(alloc, watch, poll, house, &mut page, ticks, desk)
-}
-
-// Opens the house at a listener, of which events come.
-fn open<'a, R: Clock + System + Console>(
-    alloc: Global,
-    log: &'a Log<'a, R>,
-    registry: &'a Registry,
-    listener: TcpListener,
-    connections: u64,
-) -> Result<House<'a, R>, RunFault>
-    ensures hall { IfOk result (λ house. house.hall ≡ callers 0 (replicate 128 None)) }
-    ensures left { IfOk result (λ house. house.left ≡ most_of connections) }
-    ensures ends { IfErr result EndsAtOnce }
-{
-    let Ok(()) = listener.set_nonblocking(true) else {
-        return Err(RunFault::Listen);
-    };
-    let mut listener = Listener::from_std(listener);
-    let Ok(()) = registry.register(&mut listener, DOOR, Interest::READABLE) else {
-        return Err(RunFault::Listen);
-    };
-    match House::new(alloc, log, registry, listener, most_of(connections)) {
-        Ok(house) => Ok(house),
-        Err(_) => Err(RunFault::Memory),
-    }
+    serve_house(alloc, watch, network, house, &mut page, ticks, desk)
 }
 
 /// Answers so many callers, and for 0 without end, many of them at once. A caller that was gone before it was let in counts, and what becomes of one
 /// connection ends that connection alone. Each request is answered at a tick that was given for it. Faults: 6 where there is no memory for the house, and
 /// nobody is answered; 81 where no more callers can be let in, but for want of files or memory while somebody is there. The desk is told before
 /// each turn whose it is, and the log of each connection that ends.
-pub fn serve_callers<R: Net + Clock + System + Console, T: Ticks, D: Desk + Attended>(
+pub fn serve_callers<R: Clock + System + Console, E: Ends, N: Network<E>, T: Ticks, D: Desk + Attended>(
     alloc: Global,
     rt: &R,
     log: &Log<'_, R>,
-    listener: TcpListener,
+    network: &mut N,
     connections: u64,
     ticks: &mut T,
     desk: &mut D,
 ) -> Result<(), RunFault>
-    ensures { AnswersCallers (AtTick T.reads D.serves) (most_of connections)
+    ensures listens { N.listens network.new ≡ N.listens network.old }
+    ensures answers { AnswersCallers (AtTick T.reads D.serves) (most_of connections)
         (between (T.told ticks.old) desk.old) (between (T.told ticks.new) desk.new)
-        result }
+        (N.came network.old) (N.came network.new) result }
 {
-    let (Ok(mut poll), Ok(start)) = (Poll::new(rt), Instant::now(rt)) else {
-        return Err(RunFault::Listen);
-    };
-    let Ok(registry) = poll.registry().try_clone() else {
+    let Ok(start) = Instant::now(rt) else {
         return Err(RunFault::Listen);
     };
     let mut watch = Watch {
@@ -270,16 +268,16 @@ pub fn serve_callers<R: Net + Clock + System + Console, T: Ticks, D: Desk + Atte
         now: 0,
         looked: 0,
     };
-    match open(alloc, log, &registry, listener, connections) {
-        Ok(mut house) => serve_with::<R, Brand, Brand, T, D>(
+    match House::<R, E>::new(alloc, log, most_of(connections)) {
+        Ok(mut house) => serve_with::<R, E, N, Brand, Brand, T, D>(
             alloc,
             &mut watch,
-            &mut poll,
+            network,
             &mut house,
             ticks,
             desk,
             (Blank::new(1), Blank::new(1)),
         ),
-        Err(fault) => Err(fault),
+        Err(_) => Err(RunFault::Memory),
     }
 }

@@ -1,2 +1,3 @@
+pub mod Comers
 pub mod Reads
 pub mod Scripts

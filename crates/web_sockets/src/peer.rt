@@ -1,39 +1,27 @@
-//! A caller over TCP.
-
-ghost use Rattle.std.specs.Prelude.{None};
+//! A caller over a socket.
 
 use crate::ends::{Awaited, Came, Ends};
+use crate::wire::Wire;
 use base_devices::Refused;
-use mio::net::TcpStream;
-use mio::{Interest, Registry, Token};
-use std::io::{ErrorKind, Read, Write};
+use std::io::ErrorKind;
 
-/// A caller over TCP, whose reads and writes answer at once. Nothing is known of what it sends or is brought.
+/// A caller over a socket, whose reads and writes answer at once.
 #[derive(Drop)]
-pub struct Peer<'a> {
-    /// The connection.
-    pub stream: TcpStream,
-    /// Where its house waits.
-    pub registry: &'a Registry,
-    /// Under which name it does.
-    pub token: Token,
+pub struct Peer<W: Wire> {
+    /// The socket.
+    pub wire: W,
 }
 
-// What wakes a house.
-fn interest_of(awaited: Awaited) -> Interest {
-    match awaited {
-        Awaited::Bytes => Interest::READABLE,
-        Awaited::Room => Interest::WRITABLE,
-    }
-}
+impl<W: Wire> Ends for Peer<W> {
+    ghost left = { λ p. W.left p.wire };
 
-impl Ends for Peer<'_> {
-    ghost left = { λ _. None };
-
-    ghost taken = { λ _. None };
+    ghost taken = { λ p. W.taken p.wire };
 
     fn read(&mut self, buffer: &mut [u8]) -> Result<Came, Refused> {
-        match self.stream.read(buffer) {
+        if buffer.is_empty() {
+            return Ok(Came::Later);
+        }
+        match self.wire.read(buffer) {
             Ok(0) => Ok(Came::End),
             Ok(n) => Ok(Came::Bytes(n)),
             Err(error) => match error.kind() {
@@ -44,7 +32,7 @@ impl Ends for Peer<'_> {
     }
 
     fn write(&mut self, bytes: &[u8]) -> Result<usize, Refused> {
-        match self.stream.write(bytes) {
+        match self.wire.write(bytes) {
             Ok(n) => Ok(n),
             Err(error) => match error.kind() {
                 ErrorKind::WouldBlock | ErrorKind::Interrupted => Ok(0),
@@ -53,12 +41,8 @@ impl Ends for Peer<'_> {
         }
     }
 
-    // What is there at the call wakes the house too: nothing is missed that came between a read and this.
     fn wait_for(&mut self, awaited: Awaited) -> Result<(), Refused> {
-        match self
-            .registry
-            .reregister(&mut self.stream, self.token, interest_of(awaited))
-        {
+        match self.wire.wake(awaited) {
             Ok(()) => Ok(()),
             Err(_) => Err(Refused),
         }

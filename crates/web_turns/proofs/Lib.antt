@@ -1,3 +1,4 @@
+pub mod ComeLemmas
 pub mod HallLemmas
 pub mod RecordLemmas
 pub mod StoryLemmas

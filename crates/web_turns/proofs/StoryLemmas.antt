@@ -7,11 +7,12 @@ use Rattle.base_devices.specs.declared.device.Tick.{Tick}
 use Rattle.base_devices.specs.Told.{Adds}
 use Rattle.base_devices.proofs.ToldLemmas.{Adds-nil, Adds-append}
 use Rattle.web_http.specs.Messages.{Message}
+use Rattle.web_sockets.specs.Comers.{Begun}
 use Rattle.web_turns.specs.declared.turns.Next.{Next}
 use Rattle.web_turns.specs.declared.turns.Next.TheVariants as nexts
 use Rattle.web_turns.specs.Acts.{Act, Acts, Between, ticks}
 use Rattle.web_turns.specs.Talks.{Seat, Talks, Turn, talk_begun}
-use Rattle.web_turns.specs.Halls.{AreSeated, Caller, Callers, Does, DoesAll, GoesOn, Hall, Heard, IsFree, IsGone, LeadsOn, LetsIn, Serving, Story, TakesTurn, acts_of, at_place, caller, callers, nobody, of, story, with_caller, with_place}
+use Rattle.web_turns.specs.Halls.{AreAmong, AreSeated, Caller, Callers, Does, DoesAll, GoesOn, Hall, Heard, IsFree, IsGone, LeadsOn, LetsIn, Serving, Story, TakesTurn, acts_of, at_place, caller, callers, nobody, of, seat_begun, story, with_caller, with_place}
 use Rattle.web_turns.proofs.RecordLemmas.{Acts-append, ticks-append}
 use Rattle.web_turns.proofs.TurnLemmas.{talks_begin}
 use Rattle.web_turns.proofs.HallLemmas.{acts_heard, acts_of-append, are-append, are_by, are_more, heard_by, of-append, of_later, of_other, of_own}
@@ -171,6 +172,20 @@ gone_set now came place n c within apart gone i d is same = on (who_is now place
 gone_free : (now : Callers) (place n : ℕ) → IsGone n now → IsGone n (with_place place None now)
 gone_free now place n gone i c is same = gone i c (still_here now place i c is) same
 
+-- ---- who came in
+
+among_none : (bs : List Begun) → AreAmong [] bs
+among_none [] = refl
+among_none (b ∷ bs) = inl (among_none bs)
+
+among_one : (b : Begun) → AreAmong (seat_begun b ∷ []) (b ∷ [])
+among_one b = inr ([], refl, refl)
+
+among_more : (xs ys : List Seat) (bs cs : List Begun) → AreAmong xs bs → AreAmong ys cs → AreAmong (xs ++ ys) (bs ++ cs)
+among_more xs ys [] cs none y = subst (λ (zs : List Seat). AreAmong (zs ++ ys) cs) (sym none) y
+among_more xs ys (b ∷ bs) cs (inl x) y = inl (among_more xs ys bs cs x y)
+among_more xs ys (b ∷ bs) cs (inr (rest, is, x)) y = inr (rest ++ ys, ap (λ (zs : List Seat). zs ++ ys) is, among_more rest ys bs cs x y)
+
 -- ---- what happens
 
 module _ {D : Type 0} (Serves : D → Tick → Message → Answer → D → Type 0) where
@@ -259,16 +274,15 @@ module _ {D : Type 0} (Serves : D → Tick → Message → Answer → D → Type
 
   -- ---- a hall goes on
 
-  goes_none : (first from to : Between D) (old new : Callers) (till : Story) → to ≡ from → new ≡ old → Serving Serves first from old till → GoesOn Serves first from to old new till
-  goes_none first from to old new till same is serving =
-      subst₂ (λ (b : Between D) (now : Callers). GoesOn Serves first from b old now till) (sym same) (sym is) (record {
-        firsts = [];
-        lasts = till.lasts;
-        heard = [];
-        serving = subst₂ (λ (fs : List Seat) (hs : List Heard). Serving Serves first from old (story fs till.lasts hs)) (sym (append-nil till.firsts)) (sym (append-nil till.heard)) serving;
-        came = omega arith;
-        gone = λ n lt is. (is, refl, refl);
-      })
+  goes_stay : (first from : Between D) (old : Callers) (till : Story) → Serving Serves first from old till → GoesOn Serves first from from old old till
+  goes_stay first from old till serving = record {
+    firsts = [];
+    lasts = till.lasts;
+    heard = [];
+    serving = subst₂ (λ (fs : List Seat) (hs : List Heard). Serving Serves first from old (story fs till.lasts hs)) (sym (append-nil till.firsts)) (sym (append-nil till.heard)) serving;
+    came = omega arith;
+    gone = λ n lt is. (is, refl, refl);
+  }
 
   goes_come : (first from : Between D) (old : Callers) (till : Story) (place : ℕ) (coming gone : Option (List ℕ)) → IsFree place old → Serving Serves first from old till
       → GoesOn Serves first from from old (with_caller place (talk_begun coming gone) old) till
@@ -302,30 +316,6 @@ module _ {D : Type 0} (Serves : D → Tick → Message → Answer → D → Type
     gone = λ n lt is. (gone_free old place n is, refl, refl);
   }
 
-  goes_turn : (first from to : Between D) (old new : Callers) (till : Story) (place : ℕ) (found whoever : Option Caller) → at_place place old ≡ found → TakesTurn Serves from to found whoever
-      → new ≡ with_place place whoever old → Serving Serves first from old till → GoesOn Serves first from to old new till
-  goes_turn first from to old new till place None whoever free (none, same) is serving =
-      let stays = ap (λ (w : Option Caller). with_place place w old) (none ∙ sym free) ∙ ap (λ (places : List (Option Caller)). callers old.came places) (set-get_or old.places place None) in
-      goes_none first from to old new till same (is ∙ stays) serving
-  goes_turn first from to old new till place (Some c) whoever here (seat, turned, turn, takes) is serving =
-      let there = serving.seated.here place c here in
-      let on = subst (λ (s : Seat). Turn Serves from to s seat) (sym there.1) turn in
-      subst (λ (now : Callers). GoesOn Serves first from to old now till) (sym (is ∙ ap (λ (w : Option Caller). with_place place w old) turned)) (record {
-        firsts = [];
-        lasts = slice_set till.lasts c.number seat;
-        heard = heard_by c.number on.acts;
-        serving = subst (λ (fs : List Seat). Serving Serves first to (with_place place (Some (caller c.number seat)) old) (story fs (slice_set till.lasts c.number seat) (till.heard ++ heard_by c.number on.acts))) (sym (append-nil till.firsts)) (record {
-          hall = hall_turn old.came first from to till c.number seat there.0 serving.hall on;
-          seated = seated_turn old till.lasts place c seat serving.hall.lasts here serving.seated;
-        });
-        came = omega arith;
-        gone = λ n lt is. (
-          gone_set old old.came place n (caller c.number seat) (within_places old place c here) (is place c here) is,
-          get_or-set_other till.lasts c.number n seat nobody (λ same. is place c here (sym same)),
-          of_other n c.number on.acts (is place c here),
-        );
-      })
-
   goes_more : (first from mid to : Between D) (old amid new : Callers) (till : Story) → (x : GoesOn Serves first from mid old amid till)
       → GoesOn Serves first mid to amid new (story (till.firsts ++ x.firsts) x.lasts (till.heard ++ x.heard)) → GoesOn Serves first from to old new till
   goes_more first from mid to old amid new till x y = record {
@@ -343,37 +333,82 @@ module _ {D : Type 0} (Serves : D → Tick → Message → Answer → D → Type
 
   -- ---- one after another
 
-  comes_on : (from to : Between D) (old new : Callers) → to ≡ from → LetsIn old new → LeadsOn Serves from to old new
-  comes_on from to old new same (inl is) first till serving = goes_none first from to old new till same is serving
-  comes_on from to old new same (inr (place, coming, gone, free, is)) first till serving =
-      subst₂ (λ (b : Between D) (now : Callers). GoesOn Serves first from b old now till) (sym same) (sym is) (goes_come first from old till place coming gone free serving)
+  -- a hall goes on so, and these came in
+  abbrev GoesWith : Between D → Between D → Between D → Callers → Callers → Story → List Begun → Type 0
+  GoesWith first from to old new till came = (on : GoesOn Serves first from to old new till) × AreAmong on.firsts came
 
-  leaves_on : (from to : Between D) (old new : Callers) (place : ℕ) → to ≡ from → new ≡ with_place place None old → LeadsOn Serves from to old new
-  leaves_on from to old new place same is first till serving =
-      subst₂ (λ (b : Between D) (now : Callers). GoesOn Serves first from b old now till) (sym same) (sym is) (goes_leave first from old till place serving)
+  with_none : (first from to : Between D) (old new : Callers) (till : Story) (came : List Begun) → to ≡ from → new ≡ old → Serving Serves first from old till → GoesWith first from to old new till came
+  unfolding goes_stay
+  with_none first from to old new till came same is serving =
+      subst₂ (λ (b : Between D) (now : Callers). GoesWith first from b old now till came) (sym same) (sym is) (goes_stay first from old till serving, among_none came)
 
-  does_on : (from to : Between D) (old new : Callers) (next : Next) → Does Serves from to old new next → LeadsOn Serves from to old new
-  does_on from to old new nexts.Comes (same, lets) first till serving = comes_on from to old new same lets first till serving
-  does_on from to old new (nexts.Turn place) (whoever, turn, is) first till serving =
-      goes_turn first from to old new till place (at_place place old) whoever refl turn is serving
-  does_on from to old new (nexts.Leaves place) (same, is) first till serving = leaves_on from to old new place same is first till serving
+  with_more : (first from mid to : Between D) (old amid new : Callers) (till : Story) (came : List Begun) (here later : List Begun) → came ≡ here ++ later
+      → (x : GoesWith first from mid old amid till here)
+      → GoesWith first mid to amid new (story (till.firsts ++ x.0.firsts) x.0.lasts (till.heard ++ x.0.heard)) later → GoesWith first from to old new till came
+  unfolding goes_more
+  with_more first from mid to old amid new till came here later is x y =
+      (goes_more first from mid to old amid new till x.0 y.0, subst (λ (bs : List Begun). AreAmong (x.0.firsts ++ y.0.firsts) bs) (sym is) (among_more x.0.firsts y.0.firsts here later x.1 y.1))
 
-  pub all_on : (from to : Between D) (old new : Callers) (order : List Next) → DoesAll Serves from to old new order → LeadsOn Serves from to old new
-  all_on from to old new [] (same, is) first till serving = goes_none first from to old new till same is serving
-  all_on from to old new (next ∷ others) (mid, amid, does, x) first till serving =
-      let one = does_on from mid old amid next does first till serving in
-      goes_more first from mid to old amid new till one (all_on mid to amid new others x first (story (till.firsts ++ one.firsts) one.lasts (till.heard ++ one.heard)) one.serving)
+  turn_on : (first from to : Between D) (old new : Callers) (till : Story) (came : List Begun) (place : ℕ) (found whoever : Option Caller) → at_place place old ≡ found → TakesTurn Serves from to found whoever
+      → new ≡ with_place place whoever old → Serving Serves first from old till → GoesWith first from to old new till came
+  turn_on first from to old new till came place None whoever free (none, same) is serving =
+      let stays = ap (λ (w : Option Caller). with_place place w old) (none ∙ sym free) ∙ ap (λ (places : List (Option Caller)). callers old.came places) (set-get_or old.places place None) in
+      with_none first from to old new till came same (is ∙ stays) serving
+  turn_on first from to old new till came place (Some c) whoever here (seat, turned, turn, takes) is serving =
+      let there = serving.seated.here place c here in
+      let on = subst (λ (s : Seat). Turn Serves from to s seat) (sym there.1) turn in
+      subst (λ (now : Callers). GoesWith first from to old now till came) (sym (is ∙ ap (λ (w : Option Caller). with_place place w old) turned)) (record {
+        firsts = [];
+        lasts = slice_set till.lasts c.number seat;
+        heard = heard_by c.number on.acts;
+        serving = subst (λ (fs : List Seat). Serving Serves first to (with_place place (Some (caller c.number seat)) old) (story fs (slice_set till.lasts c.number seat) (till.heard ++ heard_by c.number on.acts))) (sym (append-nil till.firsts)) (record {
+          hall = hall_turn old.came first from to till c.number seat there.0 serving.hall on;
+          seated = seated_turn old till.lasts place c seat serving.hall.lasts here serving.seated;
+        });
+        came = omega arith;
+        gone = λ n lt is. (
+          gone_set old old.came place n (caller c.number seat) (within_places old place c here) (is place c here) is,
+          get_or-set_other till.lasts c.number n seat nobody (λ same. is place c here (sym same)),
+          of_other n c.number on.acts (is place c here),
+        );
+      }, among_none came)
 
-  pub own_story : (from to : Between D) (count : ℕ) (now : Callers) (order : List Next) → DoesAll Serves from to (callers 0 (replicate count None)) now order
-      → (all : Story) × Hall Serves now.came from to all
-  own_story from to count now order does =
-      let on = all_on from to (callers 0 (replicate count None)) now order does from (story [] [] []) (story_opens from count) in
-      (story on.firsts on.lasts on.heard, on.serving.hall)
+  comes_on : (from to : Between D) (came : List Begun) (old new : Callers) → to ≡ from → LetsIn came old new → LeadsOn Serves from to came old new
+  unfolding goes_come
+  comes_on from to [] old new same is first till serving = with_none first from to old new till [] same is serving
+  comes_on from to (b ∷ bs) old new same (alone, inl is) first till serving = with_none first from to old new till (b ∷ bs) same is serving
+  comes_on from to (b ∷ bs) old new same (alone, inr (place, free, is)) first till serving =
+      subst₂ (λ (at : Between D) (now : Callers). GoesWith first from at old now till (b ∷ bs)) (sym same) (sym is)
+      (goes_come first from old till place b.coming b.gone free serving, subst (λ (cs : List Begun). AreAmong (seat_begun b ∷ []) (b ∷ cs)) (sym alone) (among_one b))
+
+  leaves_on : (from to : Between D) (came : List Begun) (old new : Callers) (place : ℕ) → to ≡ from → new ≡ with_place place None old → LeadsOn Serves from to came old new
+  unfolding goes_leave
+  leaves_on from to came old new place same is first till serving =
+      subst₂ (λ (b : Between D) (now : Callers). GoesWith first from b old now till came) (sym same) (sym is) (goes_leave first from old till place serving, among_none came)
+
+  does_on : (from to : Between D) (came : List Begun) (old new : Callers) (next : Next) → Does Serves from to came old new next → LeadsOn Serves from to came old new
+  does_on from to came old new nexts.Comes (same, lets) first till serving = comes_on from to came old new same lets first till serving
+  does_on from to came old new (nexts.Turn place) (none, (whoever, turn, is)) first till serving =
+      turn_on first from to old new till came place (at_place place old) whoever refl turn is serving
+  does_on from to came old new (nexts.Leaves place) (none, same, is) first till serving = leaves_on from to came old new place same is first till serving
+
+  pub all_on : (from to : Between D) (came : List Begun) (old new : Callers) (order : List Next) → DoesAll Serves from to came old new order → LeadsOn Serves from to came old new
+  all_on from to came old new [] (none, same, is) first till serving = with_none first from to old new till came same is serving
+  all_on from to came old new (next ∷ others) (mid, amid, here, later, whole, does, x) first till serving =
+      let one = does_on from mid here old amid next does first till serving in
+      with_more first from mid to old amid new till came here later whole one
+      (all_on mid to later amid new others x first (story (till.firsts ++ one.0.firsts) one.0.lasts (till.heard ++ one.0.heard)) one.0.serving)
+
+  pub own_story : (from to : Between D) (came : List Begun) (count : ℕ) (now : Callers) (order : List Next) → DoesAll Serves from to came (callers 0 (replicate count None)) now order
+      → (all : Story) × Hall Serves now.came from to all × AreAmong all.firsts came
+  own_story from to came count now order does =
+      let on = all_on from to came (callers 0 (replicate count None)) now order does from (story [] [] []) (story_opens from count) in
+      (story on.0.firsts on.0.lasts on.0.heard, on.0.serving.hall, on.1)
 
   -- one more thing
-  pub does_more : (from mid to : Between D) (old amid new : Callers) (order : List Next) (next : Next) → DoesAll Serves from mid old amid order → Does Serves mid to amid new next
-      → DoesAll Serves from to old new (order ++ next ∷ [])
-  does_more from mid to old amid new [] next (same, is) does =
-      (to, new, subst₂ (λ (b : Between D) (c : Callers). Does Serves b to c new next) same is does, (refl, refl))
-  does_more from mid to old amid new (other ∷ others) next (mid', amid', does', x) does =
-      (mid', amid', does', does_more mid' mid to amid' amid new others next x does)
+  pub does_more : (from mid to : Between D) (came more : List Begun) (old amid new : Callers) (order : List Next) (next : Next) → DoesAll Serves from mid came old amid order
+      → Does Serves mid to more amid new next → DoesAll Serves from to (came ++ more) old new (order ++ next ∷ [])
+  does_more from mid to came more old amid new [] next (none, same, is) does =
+      (to, new, more, [], ap (λ (bs : List Begun). bs ++ more) none ∙ sym (append-nil more), subst₂ (λ (b : Between D) (c : Callers). Does Serves b to more c new next) same is does, (refl, refl, refl))
+  does_more from mid to came more old amid new (other ∷ others) next (mid', amid', here, later, whole, does', x) does =
+      (mid', amid', here, later ++ more, ap (λ (bs : List Begun). bs ++ more) whole ∙ append_assoc here later more, does', does_more mid' mid to later more amid' amid new others next x does)

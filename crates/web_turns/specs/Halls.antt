@@ -5,6 +5,7 @@ use Rattle.base_devices.specs.declared.device.Tick.{Tick}
 use Rattle.base_devices.specs.Told.{Adds}
 use Rattle.web_http.specs.Messages.{Message}
 use Rattle.web_http.specs.Framed.{Framed}
+use Rattle.web_sockets.specs.Comers.{Begun}
 use Rattle.web_turns.specs.declared.stage.Needs.{Needs}
 use Rattle.web_turns.specs.declared.stage.Needs.TheVariants as needs
 use Rattle.web_turns.specs.declared.stage.Stage.TheVariants as stages
@@ -90,21 +91,32 @@ IsSpare (Some frames) = frames.left ≡ []
 
 -- ---- what happens, one after another
 
--- Somebody comes, to a place that is free; or nobody does, as where none is free.
-abbrev pub LetsIn : Callers → Callers → Type 0
-LetsIn old new = (new ≡ old) ⊎ ((place : ℕ) × (coming : Option (List ℕ)) × (gone : Option (List ℕ)) × IsFree place old × (new ≡ with_caller place (talk_begun coming gone) old))
+-- a conversation as a caller begins it
+abbrev pub seat_begun : Begun → Seat
+seat_begun b = talk_begun b.coming b.gone
+
+-- Nobody comes; or one does, who takes a place that is free, or none.
+abbrev pub LetsIn : List Begun → Callers → Callers → Type 0
+LetsIn [] old new = new ≡ old
+LetsIn (b ∷ bs) old new = (bs ≡ []) × ((new ≡ old) ⊎ ((place : ℕ) × IsFree place old × (new ≡ with_caller place (seat_begun b) old)))
 
 -- one thing that happens: somebody comes, or has a turn, or leaves
-abbrev pub Does : {D : Type 0} → (D → Tick → Message → Answer → D → Type 0) → Between D → Between D → Callers → Callers → Next → Type 0
-Does Serves from to old new nexts.Comes = (to ≡ from) × LetsIn old new
-Does Serves from to old new (nexts.Turn place) = TurnsAt Serves from to place old new
-Does Serves from to old new (nexts.Leaves place) = (to ≡ from) × (new ≡ with_place place None old)
+abbrev pub Does : {D : Type 0} → (D → Tick → Message → Answer → D → Type 0) → Between D → Between D → List Begun → Callers → Callers → Next → Type 0
+Does Serves from to came old new nexts.Comes = (to ≡ from) × LetsIn came old new
+Does Serves from to came old new (nexts.Turn place) = (came ≡ []) × TurnsAt Serves from to place old new
+Does Serves from to came old new (nexts.Leaves place) = (came ≡ []) × (to ≡ from) × (new ≡ with_place place None old)
 
--- all of it, one after another
-abbrev pub DoesAll : {D : Type 0} → (D → Tick → Message → Answer → D → Type 0) → Between D → Between D → Callers → Callers → List Next → Type 0
-DoesAll Serves from to old new [] = (to ≡ from) × (new ≡ old)
-DoesAll {D} Serves from to old new (next ∷ others) =
-    (mid : Between D) × (amid : Callers) × Does Serves from mid old amid next × DoesAll Serves mid to amid new others
+-- all of it, one after another, and all who came
+abbrev pub DoesAll : {D : Type 0} → (D → Tick → Message → Answer → D → Type 0) → Between D → Between D → List Begun → Callers → Callers → List Next → Type 0
+DoesAll Serves from to came old new [] = (came ≡ []) × (to ≡ from) × (new ≡ old)
+DoesAll {D} Serves from to came old new (next ∷ others) =
+    (mid : Between D) × (amid : Callers) × (first : List Begun) × (later : List Begun) × (came ≡ first ++ later)
+    × Does Serves from mid first old amid next × DoesAll Serves mid to later amid new others
+
+-- these conversations were begun by some of those who came, in their order
+abbrev pub AreAmong : List Seat → List Begun → Type 0
+AreAmong seats [] = seats ≡ []
+AreAmong seats (b ∷ bs) = AreAmong seats bs ⊎ ((rest : List Seat) × (seats ≡ seat_begun b ∷ rest) × AreAmong rest bs)
 
 -- ---- all callers since a hall opened
 
@@ -181,6 +193,7 @@ pub record GoesOn {D : Type 0} (Serves : D → Tick → Message → Answer → D
   pub gone : (n : ℕ) → n < old.came → IsGone n old
       → IsGone n new × (slice_index_or lasts n nobody ≡ slice_index_or till.lasts n nobody) × (of n heard ≡ [])
 
--- the same, whatever happened till then
-abbrev pub LeadsOn : {D : Type 0} → (D → Tick → Message → Answer → D → Type 0) → Between D → Between D → Callers → Callers → Type 0
-LeadsOn {D} Serves from to old new = (first : Between D) (till : Story) → Serving Serves first from old till → GoesOn Serves first from to old new till
+-- the same, whatever happened till then; whoever came in is one of those who came
+abbrev pub LeadsOn : {D : Type 0} → (D → Tick → Message → Answer → D → Type 0) → Between D → Between D → List Begun → Callers → Callers → Type 0
+LeadsOn {D} Serves from to came old new =
+    (first : Between D) (till : Story) → Serving Serves first from old till → (on : GoesOn Serves first from to old new till) × AreAmong on.firsts came

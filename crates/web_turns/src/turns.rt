@@ -1,6 +1,8 @@
 //! What happens in a hall, one after another.
 
+ghost use Rattle.std.specs.Prelude.{List};
 ghost use Rattle.web_connection.specs.Run.{AtTick};
+ghost use Rattle.web_sockets.specs.Comers.{Begun};
 ghost use Rattle.web_turns.specs.Acts.{between};
 ghost use Rattle.web_turns.specs.Halls.{Does, DoesAll, LetsIn};
 
@@ -23,8 +25,9 @@ pub enum Next {
 }
 
 // The last of those who are to come, to a place that is free.
+#[tactic(auto, using(crate::proofs::ComeLemmas::nobody_came, crate::proofs::ComeLemmas::one_came))]
 fn come_in<E: Ends>(alloc: Global, hall: &mut Hall<E>, comers: &mut Vec<E>)
-    ensures { LetsIn hall.old hall.new }
+    ensures { (came : List Begun) × LetsIn came hall.old hall.new }
 {
     let Some(place) = hall.free_place() else {
         return;
@@ -46,9 +49,9 @@ fn do_next<E: Ends, L: Ledger, M: Ledger, T: Ticks, D: Desk>(
     ticks: &mut T,
     desk: &mut D,
 )
-    ensures does { Does (AtTick T.reads D.serves)
+    ensures does { (came : List Begun) × Does (AtTick T.reads D.serves)
         (between (T.told ticks.old) desk.old) (between (T.told ticks.new) desk.new)
-        hall.old hall.new next }
+        came hall.old hall.new next }
 {
     match next {
         Next::Comes => come_in(alloc, hall, comers),
@@ -73,9 +76,9 @@ pub fn serve_turns<E: Ends, L: Ledger, M: Ledger, T: Ticks, D: Desk>(
     ticks: &mut T,
     desk: &mut D,
 )
-    ensures { DoesAll (AtTick T.reads D.serves)
+    ensures { (came : List Begun) × DoesAll (AtTick T.reads D.serves)
         (between (T.told ticks.old) desk.old) (between (T.told ticks.new) desk.new)
-        hall.old hall.new order.now }
+        came hall.old hall.new order.now }
 {
     for next in order {
         do_next(alloc, piece, page, hall, comers, *next, ticks, desk);

@@ -1,4 +1,4 @@
 use Rattle.web_server.proofs.listening.serve_at.Given as goal
 
-abbrev pub ghosts-serve_listener : goal.ghosts-serve_listener
-ghosts-serve_listener g a = record { name = a.blank.name; parts = a.blank.parts }
+abbrev pub ghosts-serve_network : goal.ghosts-serve_network
+ghosts-serve_network g a = record { name = a.blank.name; parts = a.blank.parts }

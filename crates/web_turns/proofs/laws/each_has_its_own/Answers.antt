@@ -3,4 +3,4 @@ use Rattle.web_turns.proofs.StoryLemmas.{own_story}
 use Rattle.web_turns.proofs.laws.each_has_its_own.Goals as goal
 
 pub returns : goal.returns
-returns g c = λ from to count now order does. own_story (AtTick g.T.Ticks.reads g.D.Desk.serves) from to count now order does
+returns g c = λ from to came count now order does. own_story (AtTick g.T.Ticks.reads g.D.Desk.serves) from to came count now order does

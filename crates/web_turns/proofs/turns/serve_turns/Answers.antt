@@ -1,4 +1,4 @@
-use Rattle.std.proofs.Common.{List, subst, sym}
+use Rattle.std.proofs.Common.{◌++◌, List, [], refl, subst, sym}
 use Rattle.std.proofs.lemmas.List.{take_more}
 use Rattle.web_connection.specs.Run.{AtTick}
 use Rattle.web_turns.specs.Acts.{between}
@@ -12,6 +12,9 @@ loop-next-preserved g c =
     let S = AtTick g.T.Ticks.reads g.D.Desk.serves in
     let from = between (g.T.Ticks.told c.args.ticks.now) c.args.desk.now in
     let to = between (g.T.Ticks.told c.do_next.new.ticks) c.do_next.new.desk in
-    subst (λ (order : List Next). DoesAll S from to c.args.hall.now c.do_next.new.hall order)
+    (c.loop-next.invariant.0 ++ c.do_next.ensures.does.0, subst (λ (order : List Next). DoesAll S from to (c.loop-next.invariant.0 ++ c.do_next.ensures.does.0) c.args.hall.now c.do_next.new.hall order)
     (sym (take_more c.args.order.now c.loop-next.next-index _ c.loop-next-test.true))
-    (does_more S from _ to c.args.hall.now _ c.do_next.new.hall _ _ c.loop-next.invariant c.do_next.ensures.does)
+    (does_more S from _ to c.loop-next.invariant.0 c.do_next.ensures.does.0 c.args.hall.now _ c.do_next.new.hall _ _ c.loop-next.invariant.1 c.do_next.ensures.does.1))
+
+pub loop-next-init : goal.loop-next-init
+loop-next-init g c = ([], (refl, refl, refl))

@@ -1,4 +1,5 @@
-use Rattle.std.proofs.Common.{take}
+use Rattle.std.proofs.Common.{List, take}
+use Rattle.web_sockets.specs.Comers.{Begun}
 use Rattle.web_connection.specs.Run.{AtTick}
 use Rattle.web_turns.specs.Acts.{between}
 use Rattle.web_turns.specs.Halls.{DoesAll}
@@ -6,5 +7,5 @@ use Rattle.web_turns.proofs.turns.serve_turns.Given as goal
 
 abbrev pub invariant-loop-next : goal.invariant-loop-next
 invariant-loop-next g l =
-    DoesAll (AtTick g.T.Ticks.reads g.D.Desk.serves) (between (g.T.Ticks.told l.fn.ticks) l.fn.desk) (between (g.T.Ticks.told l.ticks) l.desk)
-    l.fn.hall l.hall (take l.next-index l.fn.order)
+    (came : List Begun) × DoesAll (AtTick g.T.Ticks.reads g.D.Desk.serves) (between (g.T.Ticks.told l.fn.ticks) l.fn.desk) (between (g.T.Ticks.told l.ticks) l.desk)
+    came l.fn.hall l.hall (take l.next-index l.fn.order)

@@ -1,14 +1,14 @@
 use Rattle.std.proofs.Common.{List, refl, ◌∙◌}
 use Rattle.web_server.specs.declared.times.Since.{Since}
 use Rattle.web_server.proofs.PlaceLemmas.{ended_more, ended_none}
-use Rattle.web_server.proofs.VisitLemmas.{reseats_more, reseats_none}
+use Rattle.web_server.proofs.VisitLemmas.{clears_more, clears_none}
 use Rattle.web_server.proofs.house.House.look_round.Goals as goal
 
 pub loop-place-init : goal.loop-place-init
-loop-place-init g c = (reseats_none _ _ _ _ refl refl, ended_none _ _ _, refl)
+loop-place-init g c = (clears_none _ _ refl, ended_none _ _ _, refl, refl, c.look_round.ensures.listens, c.look_round.ensures.came)
 
 pub loop-place-preserved : goal.loop-place-preserved
 loop-place-preserved g c =
     let was = c.loop-place.invariant in
     let ends = c.end_late.ensures in
-    (reseats_more _ _ _ _ _ _ was.0 ends.reseats, ended_more _ _ _ _ _ _ _ was.1 was.2 ends.ends, ◌∙◌ {A = List Since} ends.since was.2)
+    (clears_more _ _ _ was.0 ends.clears, ended_more _ _ _ _ _ _ _ was.1 was.2 ends.ends, ◌∙◌ {A = List Since} ends.since was.2, ends.left ∙ was.3, ends.listens ∙ was.4, ends.came ∙ was.5)

@@ -1,24 +1,25 @@
-use Rattle.std.proofs.Common.{refl}
+use Rattle.std.proofs.Common.{arith, refl}
 use Rattle.web_connection.specs.Run.{AtTick}
 use Rattle.web_turns.specs.Acts.{between}
-use Rattle.web_server.proofs.VisitLemmas.{hosts_more, hosts_none, hosts_of, hosts_turn, reseats_leaves}
+use Rattle.web_server.proofs.VisitLemmas.{clears_leaves, hosts_more, hosts_none, hosts_of, hosts_turn, reseats_clears}
 use Rattle.web_server.proofs.house.House.turn.Goals as goal
 
-pub returns-then-eq : goal.returns-then-eq
-returns-then-eq g c = hosts_none (AtTick g.T.Ticks.reads g.D.Desk.serves) _ _ _ _ _ _ refl refl refl
+pub returns-then-eq-clause-hosts : goal.returns-then-eq-clause-hosts
+returns-then-eq-clause-hosts g c = hosts_none (AtTick g.T.Ticks.reads g.D.Desk.serves) _ _ _ _ _ _ _ _ refl refl refl refl
 
-pub returns-in-Ok : goal.returns-in-Ok
-returns-in-Ok g c =
+pub returns-in-Ok-clause-hosts : goal.returns-in-Ok-clause-hosts
+returns-in-Ok-clause-hosts g c =
     let S = AtTick g.T.Ticks.reads g.D.Desk.serves in
     let from = between (g.T.Ticks.told c.args.ticks.now) c.args.desk.now in
     let to = between (g.T.Ticks.told c.turn.new.ticks) c.turn.new.desk in
-    hosts_more S from to to _ _ _ _ _ _ (hosts_turn S from to _ _ _ c.args.place (rw (c.attend.ensures) at c.turn.ensures.turn))
-    (hosts_of S to to _ _ _ _ refl c.note.ensures)
+    let note = c.note.ensures in
+    hosts_more S from to to _ _ _ _ _ _ _ _ _ (hosts_turn S from to _ _ _ c.args.place _ (rw (c.attend.ensures) at c.turn.ensures.turn))
+    (hosts_of S to to _ _ _ _ _ _ refl (reseats_clears _ _ _ _ _ _ note.clears (omega (arith, note.left)) note.came))
 
-pub returns-in-Err : goal.returns-in-Err
-returns-in-Err g c =
+pub returns-in-Err-clause-hosts : goal.returns-in-Err-clause-hosts
+returns-in-Err-clause-hosts g c =
     let S = AtTick g.T.Ticks.reads g.D.Desk.serves in
     let from = between (g.T.Ticks.told c.args.ticks.now) c.args.desk.now in
     let to = between (g.T.Ticks.told c.turn.new.ticks) c.turn.new.desk in
-    hosts_more S from to to _ _ _ _ _ _ (hosts_turn S from to _ _ _ c.args.place (rw (c.attend.ensures) at c.turn.ensures.turn))
-    (hosts_of S to to _ _ _ _ refl (reseats_leaves _ _ _ _ c.args.place c.leave.ensures.free refl))
+    hosts_more S from to to _ _ _ _ _ _ _ _ _ (hosts_turn S from to _ _ _ c.args.place _ (rw (c.attend.ensures) at c.turn.ensures.turn))
+    (hosts_of S to to _ _ _ _ _ _ refl (reseats_clears _ _ _ _ _ _ (clears_leaves _ _ c.args.place c.leave.ensures.free) (omega arith) refl))

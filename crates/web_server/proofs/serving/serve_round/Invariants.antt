@@ -1,9 +1,0 @@
-use Rattle.web_connection.specs.Run.{AtTick}
-use Rattle.web_turns.specs.Acts.{between}
-use Rattle.web_server.specs.Visits.{Hosts}
-use Rattle.web_server.proofs.serving.serve_round.Given as goal
-
-abbrev pub invariant-loop-event : goal.invariant-loop-event
-invariant-loop-event g l =
-    Hosts (AtTick g.T.Ticks.reads g.D.Desk.serves) (between (g.T.Ticks.told l.fn.ticks) l.fn.desk) (between (g.T.Ticks.told l.ticks) l.desk)
-    l.fn.house.hall l.house.hall l.fn.house.left l.house.left

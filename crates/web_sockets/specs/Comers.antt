@@ -1,0 +1,22 @@
+-- Who comes to a network.
+use Rattle.std.specs.Prelude.{◌≡◌, ℕ, List, [], ◌∷◌, Option, Result, Ok, Err}
+use Rattle.base_devices.specs.declared.device.Refused.{Refused}
+use Rattle.base_devices.specs.Told.{Adds}
+use Rattle.web_sockets.specs.declared.network.Comer.{Comer}
+use Rattle.web_sockets.specs.declared.network.Comer.TheVariants as comers
+
+-- a caller as it comes: what it will send, and what it was brought, where that is known
+pub record Begun : Type 0 where
+  pub coming : Option (List ℕ)
+  pub gone : Option (List ℕ)
+
+abbrev pub begun : Option (List ℕ) → Option (List ℕ) → Begun
+begun coming gone = record { coming = coming; gone = gone }
+
+-- a look at the door: whoever is there came behind all others; else nobody did
+abbrev pub ComesNext : {E : Type 0} → (E → Option (List ℕ)) → (E → Option (List ℕ)) → Result (Comer E) Refused → Option (List Begun) → Option (List Begun) → Type 0
+ComesNext left taken (Ok (comers.Here ends)) old new = Adds old (begun (left ends) (taken ends) ∷ []) new
+ComesNext left taken (Ok comers.Gone) old new = new ≡ old
+ComesNext left taken (Ok comers.Nobody) old new = new ≡ old
+ComesNext left taken (Ok comers.Wants) old new = new ≡ old
+ComesNext left taken (Err e) old new = new ≡ old
