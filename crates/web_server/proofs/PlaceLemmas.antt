@@ -15,7 +15,7 @@ abbrev pub IsFirst : (ℕ → Option ℕ) → ℕ → Option ℕ → ℕ → Typ
 IsFirst ready n None most = (place : ℕ) → place < n → ready place ≡ None
 IsFirst ready n (Some first) most = (ready first ≡ Some most) × ((place r : ℕ) → place < n → ready place ≡ Some r → r ≤ most)
 
-pub crowd_none : (since : List Since) (now : Callers) → crowd_to since now 0 ≡ record { between = 0; within = 0 }
+pub crowd_none : (since : List Since) (now : Callers) → crowd_to since now 0 ≡ record { between = 0; within = 0; unsent = 0 }
 unfolding crowd_to
 crowd_none since now = refl
 

@@ -1,5 +1,5 @@
 -- Whose place is given to another caller.
-use Rattle.std.specs.Prelude.{◌≡◌, ◌+◌, ◌-◌, ◌^◌, ◌≤◌, ◌<◌, ◌==◌, ◌&&◌, ⊤, ℕ, zero, suc, min, nat_le, nat_lt, List, Option, Some, None, if◌then◌else◌, slice_get}
+use Rattle.std.specs.Prelude.{◌≡◌, ◌+◌, ◌-◌, ◌^◌, ◌≤◌, ◌<◌, ◌&&◌, ◌||◌, ◌≢◌, ℕ, zero, suc, min, nat_le, nat_lt, List, Option, Some, None, if◌then◌else◌, slice_get}
 use Rattle.web_turns.specs.declared.stage.Needs.{Needs}
 use Rattle.web_turns.specs.declared.stage.Needs.TheVariants as needs
 use Rattle.web_turns.specs.Halls.{Callers, IsFree, at_place, place_needs, with_place}
@@ -7,13 +7,12 @@ use Rattle.web_server.specs.declared.times.Crowd.{Crowd}
 use Rattle.web_server.specs.declared.times.Since.{Since}
 use Rattle.web_server.specs.Times.{crowd_with}
 
--- Who may have to go, where so many are between two requests and so many within one that began: whoever is between two, where those within one
--- aren't more; whoever is within one; and whoever has an answer underway, where nobody is in either group.
-abbrev pub MayGo : ℕ → ℕ → Needs → Option ℕ → Type 0
-MayGo between within needs.Bytes None = within ≤ between
-MayGo between within needs.Bytes (Some began) = ⊤
-MayGo between within needs.Room began = (between ≡ 0) × (within ≡ 0)
-MayGo between within needs.Nothing began = ⊥
+-- Who may have to go: whoever is between two requests, where that group is a greatest one; whoever is within one; and whoever has bytes unsent,
+-- where that group is greater than each other.
+abbrev pub MayGo : Crowd → Since → Needs → Type 0
+MayGo crowd since needs.Bytes = since.began ≡ None → (crowd.within ≤ crowd.between) × (crowd.unsent ≤ crowd.between)
+MayGo crowd since needs.Room = (since.unsent ≢ None) × (crowd.between < crowd.unsent) × (crowd.within < crowd.unsent)
+MayGo crowd since needs.Nothing = ⊥
 
 -- how readily one goes who has waited so long: not at all within a grace; beyond it the longer the readier, with so much added
 abbrev pub beyond : ℕ → ℕ → ℕ → Option ℕ
@@ -22,13 +21,18 @@ beyond grace more long = if nat_le grace long then Some (min (more + long) (2 ^ 
 -- Whoever waits for bytes may go: between two requests after a quarter of a second, before all who are within one, and only where these aren't
 -- more; within one a second after it began.
 abbrev pub readiness_of_waiting : Option ℕ → ℕ → Crowd → ℕ → Option ℕ
-readiness_of_waiting None waits crowd now = if nat_lt crowd.between crowd.within then None else beyond 250 (2 ^ 63) (now - waits)
+readiness_of_waiting None waits crowd now = if nat_lt crowd.between crowd.within || nat_lt crowd.between crowd.unsent then None else beyond 250 (2 ^ 63) (now - waits)
 readiness_of_waiting (Some began) waits crowd now = beyond 1000 0 (now - began)
 
--- Whoever has an answer underway may go a second after a part of it was taken, and only where all have one underway.
+-- Whoever has bytes unsent may go a second after the first of them was, before all others, and only where that group is greater than each other one.
+abbrev pub readiness_of_sending : Option ℕ → Crowd → ℕ → Option ℕ
+readiness_of_sending None crowd now = None
+readiness_of_sending (Some unsent) crowd now = if nat_lt crowd.between crowd.unsent && nat_lt crowd.within crowd.unsent then beyond 1000 (2 ^ 63) (now - unsent) else None
+
+-- how readily one goes
 abbrev pub readiness_of : Since → Needs → Crowd → ℕ → Option ℕ
 readiness_of since needs.Bytes crowd now = readiness_of_waiting since.began since.waits crowd now
-readiness_of since needs.Room crowd now = if (crowd.within == 0) && (crowd.between == 0) then beyond 1000 0 (now - since.waits) else None
+readiness_of since needs.Room crowd now = readiness_of_sending since.unsent crowd now
 readiness_of since needs.Nothing crowd now = None
 
 -- the same where it is known since when the caller waits; else it may not go
@@ -43,7 +47,7 @@ crowd_at (Some since) needs crowd = crowd_with since needs crowd
 
 -- how many are between two requests, and how many within one, at the first so many places
 unfoldable pub crowd_to : List Since → Callers → ℕ → Crowd
-crowd_to since callers zero = record { between = 0; within = 0 }
+crowd_to since callers zero = record { between = 0; within = 0; unsent = 0 }
 crowd_to since callers (suc n) = crowd_at (slice_get since n) (place_needs (at_place n callers)) (crowd_to since callers n)
 
 -- how readily whoever is at a place goes, among all who are there

@@ -1,5 +1,5 @@
 -- How long a caller may take, in milliseconds, and who is counted as between two requests or within one.
-use Rattle.std.specs.Prelude.{◌≡◌, ◌+◌, ◌-◌, ◌^◌, ◌<◌, ℕ, Bool, false, min, nat_le, List, Option, Some, None, unwrap_or, slice_get, if◌then◌else◌}
+use Rattle.std.specs.Prelude.{◌≡◌, ◌+◌, ◌-◌, ◌^◌, ◌<◌, ◌||◌, ℕ, Bool, true, false, min, nat_le, List, Option, Some, None, unwrap_or, slice_get, slice_set, if◌then◌else◌}
 use Rattle.web_turns.specs.declared.stage.Needs.{Needs}
 use Rattle.web_turns.specs.declared.stage.Needs.TheVariants as needs
 use Rattle.web_turns.specs.Halls.{Caller, Callers, at_place, place_needs}
@@ -15,10 +15,15 @@ abbrev pub crowd_of_waiting : Option ℕ → Crowd → Crowd
 crowd_of_waiting None crowd = record crowd { between = one_more crowd.between }
 crowd_of_waiting (Some began) crowd = record crowd { within = one_more crowd.within }
 
--- the crowd with one caller more; one who has an answer underway is in neither group
+-- whoever has bytes unsent is of the third group; whoever may have another message there is of none
+abbrev pub crowd_of_room : Option ℕ → Crowd → Crowd
+crowd_of_room None crowd = crowd
+crowd_of_room (Some unsent) crowd = record crowd { unsent = one_more crowd.unsent }
+
+-- the crowd with one caller more
 abbrev pub crowd_with : Since → Needs → Crowd → Crowd
 crowd_with since needs.Bytes crowd = crowd_of_waiting since.began crowd
-crowd_with since needs.Room crowd = crowd
+crowd_with since needs.Room crowd = crowd_of_room since.unsent crowd
 crowd_with since needs.Nothing crowd = crowd
 
 -- a minute for the next request to begin, and half a minute for one that began to be whole
@@ -26,10 +31,16 @@ abbrev pub takes_too_long : Option ℕ → ℕ → ℕ → Bool
 takes_too_long None waits now = nat_le 60000 (now - waits)
 takes_too_long (Some began) waits now = nat_le 30000 (now - began)
 
--- the time is up of whoever takes too long, or doesn't take a part of an answer for ten seconds
+-- half a minute from when bytes were unsent first, without a break
+abbrev pub sends_too_long : Option ℕ → ℕ → Bool
+sends_too_long None now = false
+sends_too_long (Some unsent) now = nat_le 30000 (now - unsent)
+
+-- The time is up of whoever takes too long; or who takes no part of an answer for ten seconds, or has had bytes unsent for half a minute without a
+-- break.
 abbrev pub is_up : Since → Needs → ℕ → Bool
 is_up since needs.Bytes now = takes_too_long since.began since.waits now
-is_up since needs.Room now = nat_le 10000 (now - since.waits)
+is_up since needs.Room now = nat_le 10000 (now - since.waits) || sends_too_long since.unsent now
 is_up since needs.Nothing now = false
 
 -- since when a request is on its way behind a turn: whoever waited for bytes, and does still, is within one
@@ -43,6 +54,21 @@ abbrev pub began_after : Needs → Needs → Option ℕ → ℕ → Option ℕ
 began_after needs.Bytes after began now = began_if after began now
 began_after needs.Room after began now = None
 began_after needs.Nothing after began now = None
+
+-- since when bytes are unsent behind a turn: a part that is taken begins nothing anew, but only that none is left
+abbrev pub unsent_after : Bool → Option ℕ → ℕ → Option ℕ
+unsent_after true unsent now = Some (unwrap_or unsent now)
+unsent_after false unsent now = None
+
+-- since when a caller waits behind a turn
+abbrev pub since_behind : Since → Needs → Needs → Bool → ℕ → Since
+since_behind since before after unsent now = record { waits = now; began = began_after before after since.began now; unsent = unsent_after unsent since.unsent now }
+
+-- the same at its place; where the conversation is over nothing is kept
+abbrev pub noted_at : ℕ → Option Since → Needs → Needs → Bool → ℕ → List Since → List Since
+noted_at place found before needs.Nothing unsent now since = since
+noted_at place None before after unsent now since = since
+noted_at place (Some s) before after unsent now since = slice_set since place (since_behind s before after unsent now)
 
 -- whoever is at a place is late if its time is up; a free place needs nothing
 abbrev pub is_late : Option Since → ℕ → Option Caller → Bool

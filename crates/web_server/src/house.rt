@@ -4,9 +4,9 @@ ghost use Rattle.std.specs.Prelude.{◌≡◌, ◌+◌, ◌<◌, ◌≤◌, [], 
 ghost use Rattle.web_connection.specs.Run.{AtTick};
 ghost use Rattle.web_cli.specs.declared.fault.RunFault.TheVariants.{Listen};
 ghost use Rattle.web_turns.specs.Acts.{between};
-ghost use Rattle.web_turns.specs.Halls.{IsFree, LetsIn, at_place, callers, place_needs, with_place};
+ghost use Rattle.web_turns.specs.Halls.{IsFree, LetsIn, at_place, callers, place_needs, place_unsent, with_place};
 ghost use Rattle.web_server.specs.Places.{GoesFirst, MakesRoom, NobodyIsThere, crowd_at, crowd_to, readiness_at};
-ghost use Rattle.web_server.specs.Times.{EndsLate, is_late, stays};
+ghost use Rattle.web_server.specs.Times.{EndsLate, is_late, noted_at, stays};
 ghost use Rattle.web_server.specs.Visits.{Clears, Hosts, Rearranged, Reseats};
 ghost use Rattle.web_sockets.specs.Comers.{begun};
 
@@ -303,12 +303,17 @@ impl<'a, R: Clock + System + Console, E: Ends> House<'a, R, E> {
         ensures clears { Clears self.old.hall self.new.hall }
         ensures left { self.new.left ≡ self.old.left }
         ensures came { N.came network.new ≡ N.came network.old }
+        ensures since { self.new.since.items
+            ≡ noted_at place (slice_get self.old.since.items place) before
+            (place_needs (at_place place self.old.hall)) (place_unsent (at_place place self.old.hall))
+            now self.old.since.items }
     {
         let after = self.hall.needs(place);
+        let unsent = self.hall.has_unsent(place);
         if after == Needs::Nothing {
             self.part(network, place, Parted::Done, now);
         } else if let Some(since) = self.since.get_mut(place) {
-            *since = since.behind(before, after, now);
+            *since = since.behind(before, after, unsent, now);
         }
     }
 

@@ -1,8 +1,8 @@
 //! How long a house waits for a caller.
 
-ghost use Rattle.std.specs.Prelude.{◌≡◌, ◌==◌, ◌&&◌, Some, nat_lt, IfSome};
+ghost use Rattle.std.specs.Prelude.{◌≡◌, ◌&&◌, ◌||◌, None, Some, nat_lt, IfSome};
 ghost use Rattle.web_server.specs.Places.{MayGo, beyond, readiness_of};
-ghost use Rattle.web_server.specs.Times.{began_after, crowd_with, is_up};
+ghost use Rattle.web_server.specs.Times.{crowd_with, is_up, sends_too_long, since_behind};
 
 use web_turns::Needs;
 
@@ -14,6 +14,9 @@ const WITHIN: u64 = 30_000;
 
 /// How long it waits for a part of an answer to be taken.
 const UNSENT: u64 = 10_000;
+
+/// How long bytes may be unsent without a break.
+const SENDING: u64 = 30_000;
 
 /// How long a request has at least where another caller wants its place.
 const GRACE: u64 = 1_000;
@@ -29,16 +32,18 @@ const IDLE: u64 = 1 << 63;
 pub(crate) struct Crowd {
     between: u64,
     within: u64,
+    unsent: u64,
 }
 
 impl Crowd {
     /// Nobody yet.
     pub(crate) fn new() -> Crowd
-        ensures { result ≡ record { between = 0; within = 0 } }
+        ensures { result ≡ record { between = 0; within = 0; unsent = 0 } }
     {
         Crowd {
             between: 0,
             within: 0,
+            unsent: 0,
         }
     }
 
@@ -46,32 +51,28 @@ impl Crowd {
     pub(crate) fn with(self, since: Since, needs: Needs) -> Crowd
         ensures { result ≡ crowd_with since needs self }
     {
-        let Crowd { between, within } = self;
-        match (needs, since.began) {
-            (Needs::Bytes, None) => Crowd {
-                between: between.saturating_add(1),
-                within,
-            },
-            (Needs::Bytes, Some(_)) => Crowd {
-                between,
-                within: within.saturating_add(1),
-            },
-            _ => self,
+        let mut crowd = self;
+        match (needs, since.began, since.unsent) {
+            (Needs::Bytes, None, _) => crowd.between = crowd.between.saturating_add(1),
+            (Needs::Bytes, Some(_), _) => crowd.within = crowd.within.saturating_add(1),
+            (Needs::Room, _, Some(_)) => crowd.unsent = crowd.unsent.saturating_add(1),
+            _ => {}
         }
+        crowd
     }
 
-    // Whether those within a request are the greater group.
-    fn is_slow(self) -> bool
-        ensures { result ≡ nat_lt self.between self.within }
+    // Whether another group is greater than those between two requests.
+    fn is_busy(self) -> bool
+        ensures { result ≡ nat_lt self.between self.within || nat_lt self.between self.unsent }
     {
-        self.within > self.between
+        self.within > self.between || self.unsent > self.between
     }
 
-    // Whether all have an answer underway.
-    fn is_empty(self) -> bool
-        ensures { result ≡ ((self.within == 0) && (self.between == 0)) }
+    // Whether those who have bytes unsent are the greatest group.
+    fn is_unsent(self) -> bool
+        ensures { result ≡ nat_lt self.between self.unsent && nat_lt self.within self.unsent }
     {
-        self.within == 0 && self.between == 0
+        self.unsent > self.between && self.unsent > self.within
     }
 }
 
@@ -80,30 +81,49 @@ impl Crowd {
 pub(crate) struct Since {
     waits: u64,
     began: Option<u64>,
+    unsent: Option<u64>,
 }
 
 impl Since {
     /// A caller that came at that moment. It is within its first request from then on, also where it sent nothing yet: else callers that send nothing
     /// would take the places of those who pause between two requests.
     pub(crate) fn new(now: u64) -> Since
-        ensures { result ≡ record { waits = now; began = Some now } }
+        ensures { result ≡ record { waits = now; began = Some now; unsent = None } }
     {
         Since {
             waits: now,
             began: Some(now),
+            unsent: None,
         }
     }
 
     /// The same behind a turn. Whoever waited for bytes, and does still, is within a request.
-    pub(crate) fn behind(self, before: Needs, after: Needs, now: u64) -> Since
-        ensures { result
-            ≡ record { waits = now; began = began_after before after self.began now } }
+    pub(crate) fn behind(self, before: Needs, after: Needs, unsent: bool, now: u64) -> Since
+        ensures { result ≡ since_behind self before after unsent now }
     {
         let began = match (before, after) {
             (Needs::Bytes, Needs::Bytes) => Some(self.began.unwrap_or(now)),
             _ => None,
         };
-        Since { waits: now, began }
+        let unsent = match unsent {
+            true => Some(self.unsent.unwrap_or(now)),
+            false => None,
+        };
+        Since {
+            waits: now,
+            began,
+            unsent,
+        }
+    }
+
+    // Whether it has had bytes unsent too long.
+    fn sends_too_long(self, now: u64) -> bool
+        ensures { result ≡ sends_too_long self.unsent now }
+    {
+        match self.unsent {
+            Some(unsent) => now.saturating_sub(unsent) >= SENDING,
+            None => false,
+        }
     }
 
     /// Whether its time is up.
@@ -113,7 +133,7 @@ impl Since {
         match (needs, self.began) {
             (Needs::Bytes, None) => now.saturating_sub(self.waits) >= BETWEEN,
             (Needs::Bytes, Some(began)) => now.saturating_sub(began) >= WITHIN,
-            (Needs::Room, _) => now.saturating_sub(self.waits) >= UNSENT,
+            (Needs::Room, _) => now.saturating_sub(self.waits) >= UNSENT || self.sends_too_long(now),
             (Needs::Nothing, _) => false,
         }
     }
@@ -124,13 +144,15 @@ impl Since {
     pub(crate) fn readiness(self, needs: Needs, crowd: Crowd, now: u64) -> Option<u64>
         ensures readiness { result ≡ readiness_of self needs crowd now }
         ensures may_go { IfSome result
-            (λ readiness. MayGo crowd.between crowd.within needs self.began) }
+            (λ readiness. MayGo crowd self needs) }
     {
         let waited = now.saturating_sub(self.waits);
-        match (needs, self.began) {
-            (Needs::Bytes, None) if !crowd.is_slow() => beyond(PAUSE, IDLE, waited),
-            (Needs::Bytes, Some(began)) => beyond(GRACE, 0, now.saturating_sub(began)),
-            (Needs::Room, _) if crowd.is_empty() => beyond(GRACE, 0, waited),
+        match (needs, self.began, self.unsent) {
+            (Needs::Bytes, None, _) if !crowd.is_busy() => beyond(PAUSE, IDLE, waited),
+            (Needs::Bytes, Some(began), _) => beyond(GRACE, 0, now.saturating_sub(began)),
+            (Needs::Room, _, Some(unsent)) if crowd.is_unsent() => {
+                beyond(GRACE, IDLE, now.saturating_sub(unsent))
+            }
             _ => None,
         }
     }

@@ -1,6 +1,6 @@
 -- What a turn's steps do to a conversation.
-use Rattle.std.proofs.Common.{◌≡◌, inl, inr, ℕ, List, [], ◌++◌, ◌<◌, length, drop, map, Option, Some, Ok, refl, sym, ap, ◌∙◌, subst, subst₂, append_assoc, append-nil, arith}
-use Rattle.std.proofs.lemmas.List.{drop_more}
+use Rattle.std.proofs.Common.{◌≡◌, inl, inr, ℕ, true, false, List, [], ◌++◌, ◌<◌, ◌≤◌, length, drop, map, Option, Some, Ok, refl, sym, ap, ◌∙◌, subst, subst₂, append_assoc, append-nil, arith}
+use Rattle.std.proofs.lemmas.List.{drop_all, drop_more}
 use Rattle.base_values.specs.declared.answer.Answer.{Answer}
 use Rattle.base_devices.specs.declared.device.Tick.{Tick}
 use Rattle.base_devices.specs.Told.{Adds, Gives}
@@ -17,6 +17,7 @@ use Rattle.web_turns.specs.declared.stage.Stage.TheVariants as stages
 use Rattle.web_turns.specs.Acts.{Act, Between, Records, ticks}
 use Rattle.web_turns.specs.Talks.{Came, Hears, Moves, Replies, Seat, Sends, Takes, Talks, Turn, Went, talk_begun, needs_of, acts_recorded}
 use Rattle.web_turns.specs.declared.stage.Needs.TheVariants as needs
+use Rattle.web_turns.specs.Halls.{has_some}
 use Rattle.web_turns.proofs.RecordLemmas.{Acts-append, ticks-append, went_recorded}
 
 -- ---- a run goes on
@@ -78,6 +79,12 @@ talks_begin coming gone = record {
 
 pub needs_room : (answer : List ℕ) (at : ℕ) (stage : Stage) → at < length answer → needs.Room ≡ needs_of (drop at answer) stage
 needs_room answer at stage lt = ap (λ (unsent : List ℕ). needs_of unsent stage) (sym (drop_more answer at 0 lt))
+
+pub unsent_some : (answer : List ℕ) (at : ℕ) → at < length answer → has_some (drop at answer) ≡ true
+unsent_some answer at lt = ap has_some (drop_more answer at 0 lt)
+
+pub unsent_none : (answer : List ℕ) (at : ℕ) → length answer ≤ at → has_some (drop at answer) ≡ false
+unsent_none answer at le = ap has_some (drop_all at answer le)
 
 -- where something is unsent, no message is taken
 pub takes_unsent : (old new : Seat) → 0 < length old.unsent → Takes old new

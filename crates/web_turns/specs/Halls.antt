@@ -1,5 +1,5 @@
 -- Many conversations at one desk, whose callers come and go.
-use Rattle.std.specs.Prelude.{◌≡◌, ⊤, ◌⊎◌, ℕ, ◌==◌, ◌+◌, ◌<◌, ◌≤◌, List, [], ◌∷◌, ◌++◌, length, map, Option, Some, None, if◌then◌else◌, slice_index_or, slice_set}
+use Rattle.std.specs.Prelude.{◌≡◌, ⊤, ◌⊎◌, Bool, true, false, ℕ, ◌==◌, ◌+◌, ◌<◌, ◌≤◌, List, [], ◌∷◌, ◌++◌, length, map, Option, Some, None, if◌then◌else◌, slice_index_or, slice_set}
 use Rattle.base_values.specs.declared.answer.Answer.{Answer}
 use Rattle.base_devices.specs.declared.device.Tick.{Tick}
 use Rattle.base_devices.specs.Told.{Adds}
@@ -76,6 +76,16 @@ FindsFree places None = (place : ℕ) → place < length places → slice_index_
 abbrev pub place_needs : Option Caller → Needs
 place_needs None = needs.Nothing
 place_needs (Some c) = needs_of c.seat.unsent c.seat.stage
+
+-- whether there are bytes
+abbrev pub has_some : List ℕ → Bool
+has_some [] = false
+has_some (b ∷ bs) = true
+
+-- whether whoever is at a place has bytes unsent
+abbrev pub place_unsent : Option Caller → Bool
+place_unsent None = false
+place_unsent (Some c) = has_some c.seat.unsent
 
 -- whoever leaves takes the connection along as it is
 abbrev pub leaves_with : {E : Type 0} → (E → Option (List ℕ)) → (E → Option (List ℕ)) → Option Caller → Option E → Type 0

@@ -4,7 +4,7 @@ ghost use Rattle.std.specs.Prelude.{◌≡◌, ℕ, None, length, option_map, re
 ghost use Rattle.web_connection.specs.Run.{AtTick};
 ghost use Rattle.web_turns.specs.Acts.{between};
 ghost use Rattle.web_turns.specs.Talks.{talk_begun};
-ghost use Rattle.web_turns.specs.Halls.{FindsFree, IsFree, TurnsAt, at_place, callers, leaves_with, place_needs, with_caller, with_place};
+ghost use Rattle.web_turns.specs.Halls.{FindsFree, IsFree, TurnsAt, at_place, callers, leaves_with, place_needs, place_unsent, with_caller, with_place};
 
 use crate::place::Place;
 use crate::stage::Needs;
@@ -104,6 +104,16 @@ impl<E: Ends> Hall<E> {
         match self.places.get(place) {
             Some(found) => found.needs(),
             None => Needs::Nothing,
+        }
+    }
+
+    /// Whether whoever is at a place has bytes unsent.
+    pub fn has_unsent(&self, place: usize) -> bool
+        ensures { result ≡ place_unsent (at_place place self.now) }
+    {
+        match self.places.get(place) {
+            Some(found) => found.has_unsent(),
+            None => false,
         }
     }
 

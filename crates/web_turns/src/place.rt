@@ -4,7 +4,7 @@ ghost use Rattle.std.specs.Prelude.{◌≡◌, [], None, Some, is_none, option_m
 ghost use Rattle.web_connection.specs.Run.{AtTick};
 ghost use Rattle.web_turns.specs.Acts.{between};
 ghost use Rattle.web_turns.specs.Talks.{talk_begun};
-ghost use Rattle.web_turns.specs.Halls.{IsSpare, TakesTurn, caller, leaves_with, place_needs};
+ghost use Rattle.web_turns.specs.Halls.{IsSpare, TakesTurn, caller, leaves_with, place_needs, place_unsent};
 
 use crate::stage::Needs;
 use crate::talk::Talk;
@@ -82,6 +82,16 @@ impl<E: Ends> Place<E> {
         match &self.talk {
             Some(talk) => talk.needs(),
             None => Needs::Nothing,
+        }
+    }
+
+    /// Whether whoever is here has bytes unsent.
+    pub fn has_unsent(&self) -> bool
+        ensures { result ≡ place_unsent self.now }
+    {
+        match &self.talk {
+            Some(talk) => talk.has_unsent(),
+            None => false,
         }
     }
 

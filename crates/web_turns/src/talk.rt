@@ -4,6 +4,7 @@ ghost use Rattle.std.specs.Prelude.{◌≡◌, []};
 ghost use Rattle.web_connection.specs.Run.{AtTick, IsPiece};
 ghost use Rattle.web_turns.specs.declared.stage.Stage.TheVariants as stages;
 ghost use Rattle.web_turns.specs.Acts.{between};
+ghost use Rattle.web_turns.specs.Halls.{has_some};
 ghost use Rattle.web_turns.specs.Talks.{Hears, Moves, Replies, Sends, Takes, Turn, talk_begun, needs_of};
 
 use crate::stage::{Needs, Stage};
@@ -91,6 +92,17 @@ impl<E: Ends> Talk<E> {
             Stage::Goes => Needs::Room,
             Stage::Ends | Stage::Lost => Needs::Nothing,
         }
+    }
+
+    /// Whether a part of an answer isn't sent yet.
+    #[tactic(auto, using(crate::proofs::TurnLemmas::unsent_some, crate::proofs::TurnLemmas::unsent_none))]
+    pub fn has_unsent(&self) -> bool
+        ensures { result ≡ has_some self.now.unsent }
+    {
+        if self.at < self.answer.len() {
+            return true;
+        }
+        false
     }
 
     // Sends what is left of the answer, as far as it is taken. Where nothing is left it writes nothing.
