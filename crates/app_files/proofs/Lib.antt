@@ -1,4 +1,5 @@
 mod ServeLemmas
+mod ServedLemmas
 mod TokenLemmas
 mod ActLemmas
 mod ImportLemmas

@@ -43,7 +43,7 @@ pub record OpensAs {S : Type 0} (g : Ghosts S) (old : Connected) (desk : DeskVie
 -- desk as they left it
 pub record LeadsFrom {S : Type 0} (reads : Option Tick → Type 0) (tables : Meaning (SqlTables S)) (most : ℕ) (first : DeskView (SqlTables S)) (left : Connection S) (outcome : Result (Unit {0}) RunFault) : Type 0 where
   pub last : DeskView (SqlTables S)
-  pub serving : AnswersCallers (AtTick reads (Serves tables)) (most_of most) (between None first) (between None last) outcome
+  pub serving : AnswersCallers (AtTick reads (Serves tables)) (most_of most) (between None first) (between None last) None None outcome
   pub connection : left ≡ last.tables.connection
 
 -- the shop in the database is served, from the desk that it is opened as

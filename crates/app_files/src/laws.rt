@@ -3,6 +3,7 @@
 ghost use Rattle.std.specs.Prelude.{◌≡◌, ◌++◌, ℕ, List, [], ◌∷◌, None, Option, Result, codes};
 ghost use Rattle.sqlite.specs.Held.{state};
 ghost use Rattle.sqlite.specs.State.{HasCleanDisk};
+ghost use Rattle.sqlite.specs.declared.connection.Connection.{Connection};
 ghost use Rattle.base_values.specs.declared.answer.Answer.{Answer};
 ghost use Rattle.base_values.specs.declared.answer.Response.{Response};
 ghost use Rattle.base_values.specs.declared.draw.Draw.{Draw};
@@ -28,12 +29,15 @@ ghost use Rattle.file_open.specs.Opened.{IsReason};
 ghost use Rattle.app_files.specs.Acting.{Acts, own_arrival, told_of};
 ghost use Rattle.app_files.specs.Evening.{IsOpenedAgain, IsRunningAs, RunsSo, over};
 ghost use Rattle.app_files.specs.Imported.{import_words};
-ghost use Rattle.app_files.specs.Served.{OpensAs};
+ghost use Rattle.app_files.specs.Served.{IsOpenedAndServed, OpensAs};
 ghost use Rattle.app_files.specs.Worked.{work_text, work_words};
 ghost use Rattle.web_cli.specs.declared.fault.RunFault.{RunFault};
 ghost use Rattle.file_scan.specs.Lawful.{IsOfMachine};
 ghost use Rattle.file_scan.specs.declared.error.OpenError.{OpenError};
-ghost use Rattle.web_arrivals.specs.Streams.{ServesHistory};
+ghost use Rattle.web_arrivals.specs.Deliveries.{Delivery, Opening};
+ghost use Rattle.web_arrivals.specs.Seen.{HasList};
+ghost use Rattle.web_arrivals.specs.Streams.{ServesHistory, ServesList};
+ghost use Rattle.web_server.specs.Visits.{AnswersCallers, most_of};
 ghost use Rattle.file_tables.specs.declared.sql.SqlTables.{SqlTables};
 ghost use Rattle.web_turns.specs.Acts.{Between, between, seen_at};
 ghost use Rattle.web_turns.specs.Halls.{Hall, Story};
@@ -45,7 +49,7 @@ use file_tables::SqlTables;
 use model_answers::Tables;
 use office_deliveries::laws::shops_run_in_any_words;
 use sqlite::{Alter, Connection};
-use web_callers::laws::{callers_go_on_with_a_history, callers_run_on};
+use web_callers::laws::{callers_are_told_once, callers_go_on_with_a_history, callers_run_on};
 
 /// A shop that was running has answered callers, and the machine stops; its file is opened again. It is the desk of the same house: the
 /// same names, the same tokens by their numbers, the same next one. It is running again, as it was or with one write carried out that had
@@ -160,6 +164,49 @@ pub fn an_evening_is_one_history<S: Alter, K: Ticks>(
     a_history_goes_on_after_a_crash::<S, K>(served, closed, opened_for);
     a_command_goes_on_with_a_history::<S>();
     a_history_goes_on_after_a_crash::<S, K>(acted, fresh, again);
+}
+
+/// What `serve` promises, seen whole: a shop whose file was opened stood for a list of arrivals; callers came, many at once, and the connection was
+/// handed back. Over a disk that returned what was written there is one list of arrivals for which it stands then, those of all messages that were
+/// acted on behind the others: each caller was answered as that list has it, or 503, in its own order and with nothing of another's.
+pub fn what_is_served_is_told_once<S: Alter, K: Ticks>(file: &Connection<S>)
+    ensures { (house : House) (p : Opening) (ds : List Delivery) (most : ℕ)
+        (left : Connection S) (outcome : Result (Unit {0}) RunFault)
+        → let tables = trait_meaning ⟦<SqlTables<S> as Tables>⟧
+        in (served : IsOpenedAndServed K.reads S.Store tables most (state S.Store file.now) left outcome)
+        → HasCleanDisk (state S.Store left) → IsOf tables house served.desk
+        → HasList tables (words_of house) served.desk p ds → (es : List Delivery)
+        × AnswersCallers (AtTick K.reads (ServesList house p)) (most_of most) (between None ds)
+        (between None es) None None outcome × IsOf tables house served.leads.last
+        × HasList tables (words_of house) served.leads.last p es }
+{
+    let _ = file;
+    callers_are_told_once::<SqlTables<S>, K>();
+}
+
+/// A shop was running, a command has ended or the machine has stopped, and `serve` opened its file again and answered callers: that is one history, and
+/// the shop is running as it leaves it. What this gives is what it asks for, so that it holds of any sequence of such runs.
+pub fn what_is_served_goes_on<S: Alter, K: Ticks>(
+    last: &SqlTables<S>,
+    fresh: &Connection<S>,
+    again: &SqlTables<S>,
+)
+    ensures { (house : House) (begun r : Running) (es : List Event) (most : ℕ)
+        (before after : DeskView (SqlTables S)) (left : Connection S)
+        (outcome : Result (Unit {0}) RunFault)
+        → let tables = trait_meaning ⟦<SqlTables<S> as Tables>⟧
+        in RunsSo tables house begun es (over last.now before) r
+        → IsFound (state S.Store last.now.connection) (state S.Store fresh.now)
+        → (served : IsOpenedAndServed K.reads S.Store tables most (state S.Store fresh.now) left
+        outcome) → (served.desk ≡ over again.now after)
+        → HasCleanDisk (state S.Store again.now.connection) → HasCleanDisk (state S.Store left)
+        → (fs : List Event) × (q : Running)
+        × AnswersCallers (AtTick K.reads (ServesHistory house)) (most_of most)
+        (between None (es ++ Crashed ∷ [])) (between None fs) None None outcome
+        × RunsSo tables house begun fs served.leads.last q }
+{
+    a_history_goes_on_after_a_crash::<S, K>(last, fresh, again);
+    callers_go_on_with_a_history::<SqlTables<S>, K>();
 }
 
 /// The program's own commands tell what they did, whatever the office, the moment and the draw: periodic work its counts, an import a line
