@@ -8,10 +8,8 @@ pub mod VariationsLemmas
 pub mod QuotasLemmas
 pub mod QuotaItemsLemmas
 pub mod QuotaVariationsLemmas
-pub mod VouchersLemmas
 pub mod CartsLemmas
 pub mod OrdersLemmas
-pub mod PositionsLemmas
 pub mod WaitingLemmas
 pub mod CheckinListsLemmas
 pub mod ListItemsLemmas
@@ -27,3 +25,4 @@ pub mod DiscountsLemmas
 pub mod Back
 pub mod LookupLemmas
 pub mod SinceLemmas
+pub mod SelectLemmas

@@ -4,3 +4,4 @@ pub mod Alone
 pub mod Select
 pub mod Lookups
 pub mod Since
+pub mod Asked

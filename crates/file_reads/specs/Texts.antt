@@ -1,5 +1,7 @@
 -- The SELECT of all columns of each table: a file has the table where the text has a meaning in it.
 use Rattle.std.specs.Prelude.{ℕ, List, codes}
+use Rattle.file_schema.specs.Described.{select_text}
+use Rattle.file_schema.specs.Descriptions.{quota_items, vouchers, order_positions}
 
 -- the shop's own row: its version, names and moment, and the next id of each table
 abbrev pub shop_text : List ℕ
@@ -19,7 +21,7 @@ quotas_text = codes "SELECT id, name, size FROM quotas ORDER BY id"
 
 -- the items that are members of quotas, by the number of the link's row
 abbrev pub quota_items_text : List ℕ
-quota_items_text = codes "SELECT rowid, quota_id, item_id FROM quota_items ORDER BY rowid"
+quota_items_text = select_text quota_items
 
 -- the variations that are members of quotas, by the number of the link's row
 abbrev pub quota_variations_text : List ℕ
@@ -27,7 +29,7 @@ quota_variations_text = codes "SELECT rowid, quota_id, variation_id FROM quota_v
 
 -- the vouchers, by id, each with the number of its uses in orders
 abbrev pub vouchers_text : List ℕ
-vouchers_text = codes "SELECT id, code, max_usages, valid_until, block_quota, allow_ignore_quota, price_mode, amount, item_id, variation_id, quota_id, tag, comment, redeemed FROM vouchers ORDER BY id"
+vouchers_text = select_text vouchers
 
 -- the cart positions, by id, alive or dead
 abbrev pub carts_text : List ℕ
@@ -39,7 +41,7 @@ orders_text = codes "SELECT id, email, status, made_at, expires FROM orders ORDE
 
 -- the positions of all orders, by id, each with its order and its number in it
 abbrev pub positions_text : List ℕ
-positions_text = codes "SELECT id, order_id, positionid, item_id, variation_id, price, voucher_id, secret FROM order_positions ORDER BY id"
+positions_text = select_text order_positions
 
 -- the entries of the waiting list, by id and not by their turn
 abbrev pub waiting_text : List ℕ

@@ -23,7 +23,7 @@ impl Loaded for PositionRow {
 
     ghost since = { 1 };
 
-    #[tactic(auto, using(crate::proofs::PositionsLemmas::select_since, crate::proofs::PositionsLemmas::reads_only, crate::proofs::PositionsLemmas::alone_since))]
+    #[tactic(auto, using(crate::proofs::SelectLemmas::order_positions_selected))]
     fn statement() -> &'static str {
         "SELECT id, order_id, positionid, item_id, variation_id, price, voucher_id, secret FROM order_positions ORDER BY id"
     }

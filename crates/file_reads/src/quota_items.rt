@@ -22,7 +22,7 @@ impl Loaded for QuotaItem {
 
     ghost since = { 1 };
 
-    #[tactic(auto, using(crate::proofs::QuotaItemsLemmas::select_since, crate::proofs::QuotaItemsLemmas::reads_only, crate::proofs::QuotaItemsLemmas::alone_since))]
+    #[tactic(auto, using(crate::proofs::SelectLemmas::quota_items_selected))]
     fn statement() -> &'static str {
         "SELECT rowid, quota_id, item_id FROM quota_items ORDER BY rowid"
     }

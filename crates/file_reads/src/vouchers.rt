@@ -22,7 +22,7 @@ impl Loaded for VoucherRow {
 
     ghost since = { 1 };
 
-    #[tactic(auto, using(crate::proofs::VouchersLemmas::select_since, crate::proofs::VouchersLemmas::reads_only, crate::proofs::VouchersLemmas::alone_since))]
+    #[tactic(auto, using(crate::proofs::SelectLemmas::vouchers_selected))]
     fn statement() -> &'static str {
         "SELECT id, code, max_usages, valid_until, block_quota, allow_ignore_quota, price_mode, amount, item_id, variation_id, quota_id, tag, comment, redeemed FROM vouchers ORDER BY id"
     }

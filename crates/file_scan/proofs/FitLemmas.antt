@@ -10,6 +10,8 @@ use Rattle.sqlite_trees.specs.Tree.{Trees}
 use Rattle.sqlite_schema.specs.declared.schema.Schema.{Schema}
 use Rattle.sqlite.specs.Effect.{Database}
 use Rattle.sqlite.proofs.Callers.{one_permutation}
+use Rattle.file_schema.specs.Described.{select_text}
+use Rattle.file_schema.specs.Descriptions.{quota_items, vouchers, order_positions}
 use Rattle.file_schema.specs.Tables.{schema, this_version}
 use Rattle.file_schema.specs.Versions.{schema_of_version}
 use Rattle.file_schema.specs.Parts.{HoldParts}
@@ -24,12 +26,9 @@ use Rattle.file_reads.proofs.ShopLemmas as of_shop
 use Rattle.file_reads.proofs.ItemsLemmas as of_items
 use Rattle.file_reads.proofs.VariationsLemmas as of_variations
 use Rattle.file_reads.proofs.QuotasLemmas as of_quotas
-use Rattle.file_reads.proofs.QuotaItemsLemmas as of_quota_items
 use Rattle.file_reads.proofs.QuotaVariationsLemmas as of_quota_variations
-use Rattle.file_reads.proofs.VouchersLemmas as of_vouchers
 use Rattle.file_reads.proofs.CartsLemmas as of_carts
 use Rattle.file_reads.proofs.OrdersLemmas as of_orders
-use Rattle.file_reads.proofs.PositionsLemmas as of_positions
 use Rattle.file_reads.proofs.WaitingLemmas as of_waiting
 use Rattle.file_reads.proofs.CheckinListsLemmas as of_checkin_lists
 use Rattle.file_reads.proofs.ListItemsLemmas as of_list_items
@@ -42,6 +41,7 @@ use Rattle.file_reads.proofs.ExitsLemmas as of_exits
 use Rattle.file_reads.proofs.BudgetsLemmas as of_budgets
 use Rattle.file_reads.proofs.SpentsLemmas as of_spents
 use Rattle.file_reads.proofs.DiscountsLemmas as of_discounts
+use Rattle.file_reads.proofs.SelectLemmas.{quota_items_selected, vouchers_selected, order_positions_selected}
 use Rattle.file_scan.specs.declared.error.OpenError.{OpenError}
 use Rattle.file_scan.specs.declared.error.OpenError.TheVariants.{Memory, NotAShop, Version, Damaged, Store}
 use Rattle.model_rules.specs.declared.rule.Rule.TheVariants as rule
@@ -147,14 +147,14 @@ has_catalogue : (s : Schema) → IsSince 1 s → LacksCatalogue s → ⊥
 has_catalogue s known (inl none) = lacks_none of_items.select_text _ [] (of_items.select_since s known) s refl none
 has_catalogue s known (inr (inl none)) = lacks_none of_variations.select_text _ [] (of_variations.select_since s known) s refl none
 has_catalogue s known (inr (inr (inl none))) = lacks_none of_quotas.select_text _ [] (of_quotas.select_since s known) s refl none
-has_catalogue s known (inr (inr (inr (inl none)))) = lacks_none of_quota_items.select_text _ [] (of_quota_items.select_since s known) s refl none
+has_catalogue s known (inr (inr (inr (inl none)))) = lacks_none (select_text quota_items) _ [] (quota_items_selected.select s known) s refl none
 has_catalogue s known (inr (inr (inr (inr none)))) = lacks_none of_quota_variations.select_text _ [] (of_quota_variations.select_since s known) s refl none
 
 has_sales : (s : Schema) → IsSince 1 s → LacksSales s → ⊥
-has_sales s known (inl none) = lacks_none of_vouchers.select_text _ [] (of_vouchers.select_since s known) s refl none
+has_sales s known (inl none) = lacks_none (select_text vouchers) _ [] (vouchers_selected.select s known) s refl none
 has_sales s known (inr (inl none)) = lacks_none of_carts.select_text _ [] (of_carts.select_since s known) s refl none
 has_sales s known (inr (inr (inl none))) = lacks_none of_orders.select_text _ [] (of_orders.select_since s known) s refl none
-has_sales s known (inr (inr (inr (inl none)))) = lacks_none of_positions.select_text _ [] (of_positions.select_since s known) s refl none
+has_sales s known (inr (inr (inr (inl none)))) = lacks_none (select_text order_positions) _ [] (order_positions_selected.select s known) s refl none
 has_sales s known (inr (inr (inr (inr none)))) = lacks_none of_waiting.select_text _ [] (of_waiting.select_since s known) s refl none
 
 has_doors : (s : Schema) → IsSince 1 s → LacksDoors s → ⊥

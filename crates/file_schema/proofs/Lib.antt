@@ -12,3 +12,4 @@ pub mod Standing
 pub mod Creating
 pub mod Makes
 pub mod WholeLemmas
+pub mod ByTree

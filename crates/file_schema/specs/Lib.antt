@@ -1,3 +1,5 @@
+pub mod Described
+pub mod Descriptions
 pub mod Shapes
 pub mod Tables
 pub mod Plain

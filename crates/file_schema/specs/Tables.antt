@@ -14,6 +14,8 @@ use Rattle.sqlite_schema.specs.declared.schema.Reference.{Reference}
 use Rattle.sqlite_schema.specs.declared.schema.Action.TheVariants.{Restrict, NoAction}
 use Rattle.sqlite_schema.specs.declared.schema.Kind.{Kind}
 use Rattle.sqlite_schema.specs.declared.schema.Kind.TheVariants.{Integer, Text, Blob}
+use Rattle.file_schema.specs.Described.{create_text, table_of}
+use Rattle.file_schema.specs.Descriptions.{quota_items, vouchers, order_positions}
 
 -- ---- columns of STRICT tables
 
@@ -145,15 +147,11 @@ quotas_table =
 
 -- the items of quotas
 abbrev pub quota_items_text : List ℕ
-quota_items_text = codes "CREATE TABLE quota_items (quota_id INTEGER NOT NULL REFERENCES quotas ON DELETE RESTRICT, item_id INTEGER NOT NULL REFERENCES items ON DELETE RESTRICT, PRIMARY KEY (quota_id, item_id)) STRICT"
+quota_items_text = create_text quota_items
 
 -- what `quota_items_text` defines: a quota has an item at most once
 abbrev pub quota_items_table : Table
-quota_items_table =
-    paired_table (codes "quota_items") 4
-    (number (codes "quota_id") ∷ number (codes "item_id") ∷ [])
-    (1 ∷ 2 ∷ [])
-    (refers 1 (codes "quotas") ∷ refers 2 (codes "items") ∷ [])
+quota_items_table = table_of quota_items
 
 -- the variations of quotas
 abbrev pub quota_variations_text : List ℕ
@@ -169,15 +167,11 @@ quota_variations_table =
 
 -- vouchers, each with how often it is redeemed
 abbrev pub vouchers_text : List ℕ
-vouchers_text = codes "CREATE TABLE vouchers (id INTEGER PRIMARY KEY, code TEXT NOT NULL UNIQUE, max_usages INTEGER NOT NULL, valid_until INTEGER, block_quota INTEGER NOT NULL CHECK (block_quota IN (0, 1)), allow_ignore_quota INTEGER NOT NULL CHECK (allow_ignore_quota IN (0, 1)), price_mode TEXT NOT NULL, amount INTEGER, item_id INTEGER REFERENCES items ON DELETE RESTRICT, variation_id INTEGER REFERENCES variations ON DELETE RESTRICT, quota_id INTEGER REFERENCES quotas ON DELETE RESTRICT, tag TEXT NOT NULL, comment TEXT NOT NULL, redeemed INTEGER NOT NULL) STRICT"
+vouchers_text = create_text vouchers
 
 -- what `vouchers_text` defines: no two vouchers have one code, and each may name an item, a variation and a quota
 abbrev pub vouchers_table : Table
-vouchers_table =
-    keyed_table (codes "vouchers") 8
-    (id (codes "id") ∷ text (codes "code") ∷ number (codes "max_usages") ∷ number_or_null (codes "valid_until") ∷ number (codes "block_quota") ∷ number (codes "allow_ignore_quota") ∷ text (codes "price_mode") ∷ number_or_null (codes "amount") ∷ number_or_null (codes "item_id") ∷ number_or_null (codes "variation_id") ∷ number_or_null (codes "quota_id") ∷ text (codes "tag") ∷ text (codes "comment") ∷ number (codes "redeemed") ∷ [])
-    ((2 ∷ []) ∷ []) (is_truth 5 ∷ is_truth 6 ∷ [])
-    (refers 9 (codes "items") ∷ refers 10 (codes "variations") ∷ refers 11 (codes "quotas") ∷ [])
+vouchers_table = table_of vouchers
 
 -- places that are held in carts
 abbrev pub cart_positions_text : List ℕ
@@ -205,15 +199,11 @@ orders_table =
 
 -- the tickets of orders
 abbrev pub order_positions_text : List ℕ
-order_positions_text = codes "CREATE TABLE order_positions (id INTEGER PRIMARY KEY, order_id INTEGER NOT NULL REFERENCES orders ON DELETE RESTRICT, positionid INTEGER NOT NULL, item_id INTEGER NOT NULL REFERENCES items ON DELETE RESTRICT, variation_id INTEGER REFERENCES variations ON DELETE RESTRICT, price INTEGER NOT NULL, voucher_id INTEGER REFERENCES vouchers ON DELETE RESTRICT, secret TEXT NOT NULL UNIQUE, UNIQUE (order_id, positionid)) STRICT"
+order_positions_text = create_text order_positions
 
 -- what `order_positions_text` defines: no two tickets have one secret, nor one order and one number in it
 abbrev pub order_positions_table : Table
-order_positions_table =
-    keyed_table (codes "order_positions") 12
-    (id (codes "id") ∷ number (codes "order_id") ∷ number (codes "positionid") ∷ number (codes "item_id") ∷ number_or_null (codes "variation_id") ∷ number (codes "price") ∷ number_or_null (codes "voucher_id") ∷ text (codes "secret") ∷ [])
-    ((8 ∷ []) ∷ (2 ∷ 3 ∷ []) ∷ []) ([])
-    (refers 2 (codes "orders") ∷ refers 4 (codes "items") ∷ refers 5 (codes "variations") ∷ refers 7 (codes "vouchers") ∷ [])
+order_positions_table = table_of order_positions
 
 -- the waiting list
 abbrev pub waiting_text : List ℕ

@@ -28,3 +28,6 @@ pub mod Removed
 pub mod RemovedLemmas
 pub mod VouchersLemmas
 pub mod PartRows
+pub mod AskedTexts
+pub mod KeptRows
+pub mod DescribedLemmas

@@ -28,7 +28,7 @@ impl Stored for OrderPos {
 
     ghost without_row = { without_position };
 
-    #[tactic(auto, using(crate::proofs::PositionsLemmas::statements_are))]
+    #[tactic(auto, using(crate::proofs::KeptRows::order_positions_are))]
     fn statements() -> Statements {
         Statements {
             insert: "INSERT INTO order_positions (id, order_id, positionid, item_id, variation_id, price, voucher_id, secret) VALUES (?1, ?2, ?3, ?4, ?5, ?6, ?7, ?8)",

@@ -18,7 +18,7 @@ impl Stored for QuotaItem {
 
     ghost without_row = { without_quota_item };
 
-    #[tactic(auto, using(crate::proofs::QuotaItemsLemmas::statements_are))]
+    #[tactic(auto, using(crate::proofs::KeptRows::quota_items_are))]
     fn statements() -> Statements {
         Statements {
             insert: "INSERT INTO quota_items (rowid, quota_id, item_id) VALUES (?1, ?2, ?3)",
