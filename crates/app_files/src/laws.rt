@@ -170,14 +170,14 @@ pub fn an_evening_is_one_history<S: Alter, K: Ticks>(
 /// handed back. Over a disk that returned what was written there is one list of arrivals for which it stands then, those of all messages that were
 /// acted on behind the others: each caller was answered as that list has it, or 503, in its own order and with nothing of another's.
 pub fn what_is_served_is_told_once<S: Alter, K: Ticks>(file: &Connection<S>)
-    ensures { (house : House) (p : Opening) (ds : List Delivery) (most : ℕ)
-        (left : Connection S) (outcome : Result (Unit {0}) RunFault)
+    ensures { (house : House) (p : Opening) (ds : List Delivery) (most : ℕ) (left : Connection S)
+        (outcome : Result (Unit {0}) RunFault)
         → let tables = trait_meaning ⟦<SqlTables<S> as Tables>⟧
-        in (served : IsOpenedAndServed K.reads S.Store tables most (state S.Store file.now) left outcome)
-        → HasCleanDisk (state S.Store left) → IsOf tables house served.desk
-        → HasList tables (words_of house) served.desk p ds → (es : List Delivery)
-        × AnswersCallers (AtTick K.reads (ServesList house p)) (most_of most) (between None ds)
-        (between None es) None None outcome × IsOf tables house served.leads.last
+        in (served : IsOpenedAndServed K.reads S.Store tables most
+        (state S.Store file.now) left outcome) → HasCleanDisk (state S.Store left)
+        → IsOf tables house served.desk → HasList tables (words_of house) served.desk p ds
+        → (es : List Delivery) × AnswersCallers (AtTick K.reads (ServesList house p)) (most_of most)
+        (between None ds) (between None es) None None outcome × IsOf tables house served.leads.last
         × HasList tables (words_of house) served.leads.last p es }
 {
     let _ = file;

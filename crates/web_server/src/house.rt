@@ -45,11 +45,7 @@ pub(crate) struct House<'a, R, E: Ends> {
 
 impl<'a, R: Clock + System + Console, E: Ends> House<'a, R, E> {
     /// A house into which nobody came yet.
-    pub(crate) fn new(
-        alloc: Global,
-        log: &'a Log<'a, R>,
-        left: u64,
-    ) -> Result<Self, AllocError>
+    pub(crate) fn new(alloc: Global, log: &'a Log<'a, R>, left: u64) -> Result<Self, AllocError>
         ensures hall { IfOk result (λ house. house.hall ≡ callers 0 (replicate 128 None)) }
         ensures left { IfOk result (λ house. house.left ≡ left) }
     {
@@ -172,10 +168,18 @@ impl<'a, R: Clock + System + Console, E: Ends> House<'a, R, E> {
 
     // A caller takes a place that is free.
     #[tactic(auto, using(crate::proofs::VisitLemmas::lets_one, crate::proofs::VisitLemmas::lets_nobody))]
-    fn seat<N: Network<E>>(&mut self, alloc: Global, network: &mut N, place: usize, ends: E, now: u64)
+    fn seat<N: Network<E>>(
+        &mut self,
+        alloc: Global,
+        network: &mut N,
+        place: usize,
+        ends: E,
+        now: u64,
+    )
         requires { IsFree place self.old.hall }
         ensures listens { N.listens network.new ≡ N.listens network.old }
-        ensures lets { LetsIn (begun (E.left ends) (E.taken ends) ∷ []) self.old.hall self.new.hall }
+        ensures lets { LetsIn
+            (begun (E.left ends) (E.taken ends) ∷ []) self.old.hall self.new.hall }
         ensures came { N.came network.new ≡ N.came network.old }
         ensures left { self.new.left ≡ self.old.left }
         ensures count { self.new.hall.came ≤ self.old.hall.came + 1 }
@@ -303,10 +307,10 @@ impl<'a, R: Clock + System + Console, E: Ends> House<'a, R, E> {
         ensures clears { Clears self.old.hall self.new.hall }
         ensures left { self.new.left ≡ self.old.left }
         ensures came { N.came network.new ≡ N.came network.old }
-        ensures since { self.new.since.items
-            ≡ noted_at place (slice_get self.old.since.items place) before
-            (place_needs (at_place place self.old.hall)) (place_unsent (at_place place self.old.hall))
-            now self.old.since.items }
+        ensures since { self.new.since.items ≡ noted_at place
+            (slice_get self.old.since.items place) before
+            (place_needs (at_place place self.old.hall))
+            (place_unsent (at_place place self.old.hall)) now self.old.since.items }
     {
         let after = self.hall.needs(place);
         let unsent = self.hall.has_unsent(place);

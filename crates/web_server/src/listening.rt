@@ -43,9 +43,9 @@ fn serve_network<
 ) -> Result<(), RunFault>
     requires blank { IsBlankOf M.Ledger blank }
     ensures listens { N.listens network.new ≡ N.listens network.old }
-    ensures answers { AnswersCallers (AtTick (IsRead R.shows R.gives) D.serves) (most_of connections)
-        (between None desk.old) (between None desk.new)
-        (N.came network.old) (N.came network.new) result }
+    ensures answers { AnswersCallers (AtTick (IsRead R.shows R.gives) D.serves)
+        (most_of connections) (between None desk.old) (between None desk.new) (N.came network.old)
+        (N.came network.new) result }
 {
     let failures = Steps::<M>::new(blank);
     let mut ticks = ClockTicks::<R, M> { rt, failures };
@@ -55,13 +55,7 @@ fn serve_network<
 /// Listens at an address, says so, and answers the callers that come, many of them at once, by the system's clock and its draws. Faults: 81
 /// where the address can't be listened at, and then nothing is said; 83 where that couldn't be said, and then nobody is answered; 81 and 6
 /// as `serve_callers`.
-pub fn serve_at<
-    R: Clock + System + Console,
-    E: Ends,
-    N: Network<E>,
-    D: Desk + Attended,
-    W: Drain,
->(
+pub fn serve_at<R: Clock + System + Console, E: Ends, N: Network<E>, D: Desk + Attended, W: Drain>(
     rt: &R,
     alloc: Global,
     log: &Log<'_, R>,

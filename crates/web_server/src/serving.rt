@@ -98,7 +98,15 @@ fn look_if_due<R: Clock + System + Console, E: Ends, N: Network<E>>(
 
 // Hears all that was to be heard.
 #[tactic(auto, using(crate::proofs::VisitLemmas::happened_none))]
-fn hear_all<R: Clock + System + Console, E: Ends, N: Network<E>, L: Ledger, M: Ledger, T: Ticks, D: Desk + Attended>(
+fn hear_all<
+    R: Clock + System + Console,
+    E: Ends,
+    N: Network<E>,
+    L: Ledger,
+    M: Ledger,
+    T: Ticks,
+    D: Desk + Attended,
+>(
     alloc: Global,
     network: &mut N,
     house: &mut House<'_, R, E>,
@@ -124,7 +132,15 @@ fn hear_all<R: Clock + System + Console, E: Ends, N: Network<E>, L: Ledger, M: L
 
 // One round: hears what happened, and lets in who is at the door.
 #[tactic(auto, using(crate::proofs::VisitLemmas::happened_none))]
-fn serve_round<R: Clock + System + Console, E: Ends, N: Network<E>, L: Ledger, M: Ledger, T: Ticks, D: Desk + Attended>(
+fn serve_round<
+    R: Clock + System + Console,
+    E: Ends,
+    N: Network<E>,
+    L: Ledger,
+    M: Ledger,
+    T: Ticks,
+    D: Desk + Attended,
+>(
     alloc: Global,
     watch: &mut Watch<'_, R>,
     network: &mut N,
@@ -152,7 +168,15 @@ fn serve_round<R: Clock + System + Console, E: Ends, N: Network<E>, L: Ledger, M
 }
 
 // Rounds, one after another, till all who were to be let in have come and gone.
-fn serve_rounds<R: Clock + System + Console, E: Ends, N: Network<E>, L: Ledger, M: Ledger, T: Ticks, D: Desk + Attended>(
+fn serve_rounds<
+    R: Clock + System + Console,
+    E: Ends,
+    N: Network<E>,
+    L: Ledger,
+    M: Ledger,
+    T: Ticks,
+    D: Desk + Attended,
+>(
     alloc: Global,
     watch: &mut Watch<'_, R>,
     network: &mut N,
@@ -183,7 +207,15 @@ fn serve_rounds<R: Clock + System + Console, E: Ends, N: Network<E>, L: Ledger, 
 
 // The same with room for events and for what one read gives.
 #[tactic(auto, using(crate::proofs::VisitLemmas::rounds_end, crate::proofs::VisitLemmas::happened_none))]
-fn serve_house<R: Clock + System + Console, E: Ends, N: Network<E>, L: Ledger, M: Ledger, T: Ticks, D: Desk + Attended>(
+fn serve_house<
+    R: Clock + System + Console,
+    E: Ends,
+    N: Network<E>,
+    L: Ledger,
+    M: Ledger,
+    T: Ticks,
+    D: Desk + Attended,
+>(
     alloc: Global,
     watch: &mut Watch<'_, R>,
     network: &mut N,
@@ -202,20 +234,19 @@ fn serve_house<R: Clock + System + Console, E: Ends, N: Network<E>, L: Ledger, M
     let Ok(mut piece) = Piece::new(alloc) else {
         return Err(RunFault::Memory);
     };
-    serve_rounds(
-        alloc,
-        watch,
-        network,
-        house,
-        &mut piece,
-        page,
-        ticks,
-        desk,
-    )
+    serve_rounds(alloc, watch, network, house, &mut piece, page, ticks, desk)
 }
 
 // The same with a ledger for each count of the page.
-fn serve_with<R: Clock + System + Console, E: Ends, N: Network<E>, L: Ledger, M: Ledger, T: Ticks, D: Desk + Attended>(
+fn serve_with<
+    R: Clock + System + Console,
+    E: Ends,
+    N: Network<E>,
+    L: Ledger,
+    M: Ledger,
+    T: Ticks,
+    D: Desk + Attended,
+>(
     alloc: Global,
     watch: &mut Watch<'_, R>,
     network: &mut N,
@@ -245,7 +276,13 @@ fn serve_with<R: Clock + System + Console, E: Ends, N: Network<E>, L: Ledger, M:
 /// connection ends that connection alone. Each request is answered at a tick that was given for it. Faults: 6 where there is no memory for the house, and
 /// nobody is answered; 81 where no more callers can be let in, but for want of files or memory while somebody is there. The desk is told before
 /// each turn whose it is, and the log of each connection that ends.
-pub fn serve_callers<R: Clock + System + Console, E: Ends, N: Network<E>, T: Ticks, D: Desk + Attended>(
+pub fn serve_callers<
+    R: Clock + System + Console,
+    E: Ends,
+    N: Network<E>,
+    T: Ticks,
+    D: Desk + Attended,
+>(
     alloc: Global,
     rt: &R,
     log: &Log<'_, R>,

@@ -59,7 +59,11 @@ fn event_of(token: Token) -> Event {
 }
 
 // Has a listener's events come.
-fn open<R: Net<Listener = std::net::TcpListener, Stream = std::net::TcpStream>>(rt: &R, registry: &Registry, addr: SocketAddr) -> io::Result<TcpListener> {
+fn open<R: Net<Listener = std::net::TcpListener, Stream = std::net::TcpStream>>(
+    rt: &R,
+    registry: &Registry,
+    addr: SocketAddr,
+) -> io::Result<TcpListener> {
     let listener = rt.bind(addr)?;
     listener.set_nonblocking(true)?;
     let mut listener = TcpListener::from_std(listener);
@@ -69,7 +73,12 @@ fn open<R: Net<Listener = std::net::TcpListener, Stream = std::net::TcpStream>>(
 
 impl<'a, R> Street<'a, R> {
     /// A network at which nobody listens yet.
-    pub fn new(alloc: Global, rt: &'a R, poll: Poll, registry: &'a Registry) -> Result<Self, AllocError>
+    pub fn new(
+        alloc: Global,
+        rt: &'a R,
+        poll: Poll,
+        registry: &'a Registry,
+    ) -> Result<Self, AllocError>
         ensures { IfOk result (λ street. street.at ≡ None) }
     {
         let events = Events::with_capacity(alloc, EVENTS)?;
@@ -87,7 +96,9 @@ impl<'a, R> Street<'a, R> {
     }
 }
 
-impl<'a, R: Net<Listener = std::net::TcpListener, Stream = std::net::TcpStream>> Network<Peer<Tcp<'a>>> for Street<'a, R> {
+impl<'a, R: Net<Listener = std::net::TcpListener, Stream = std::net::TcpStream>> Network<
+    Peer<Tcp<'a>>,
+> for Street<'a, R> {
     ghost listens = { λ s. s.at };
 
     ghost came = { λ _. None };

@@ -133,7 +133,8 @@ impl Since {
         match (needs, self.began) {
             (Needs::Bytes, None) => now.saturating_sub(self.waits) >= BETWEEN,
             (Needs::Bytes, Some(began)) => now.saturating_sub(began) >= WITHIN,
-            (Needs::Room, _) => now.saturating_sub(self.waits) >= UNSENT || self.sends_too_long(now),
+            (Needs::Room, _) => now.saturating_sub(self.waits) >= UNSENT
+                || self.sends_too_long(now),
             (Needs::Nothing, _) => false,
         }
     }

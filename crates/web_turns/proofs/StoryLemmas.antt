@@ -357,21 +357,24 @@ module _ {D : Type 0} (Serves : D → Tick → Message → Answer → D → Type
   turn_on first from to old new till came place (Some c) whoever here (seat, turned, turn, takes) is serving =
       let there = serving.seated.here place c here in
       let on = subst (λ (s : Seat). Turn Serves from to s seat) (sym there.1) turn in
-      subst (λ (now : Callers). GoesWith first from to old now till came) (sym (is ∙ ap (λ (w : Option Caller). with_place place w old) turned)) (record {
-        firsts = [];
-        lasts = slice_set till.lasts c.number seat;
-        heard = heard_by c.number on.acts;
-        serving = subst (λ (fs : List Seat). Serving Serves first to (with_place place (Some (caller c.number seat)) old) (story fs (slice_set till.lasts c.number seat) (till.heard ++ heard_by c.number on.acts))) (sym (append-nil till.firsts)) (record {
-          hall = hall_turn old.came first from to till c.number seat there.0 serving.hall on;
-          seated = seated_turn old till.lasts place c seat serving.hall.lasts here serving.seated;
-        });
-        came = omega arith;
-        gone = λ n lt is. (
-          gone_set old old.came place n (caller c.number seat) (within_places old place c here) (is place c here) is,
-          get_or-set_other till.lasts c.number n seat nobody (λ same. is place c here (sym same)),
-          of_other n c.number on.acts (is place c here),
-        );
-      }, among_none came)
+      subst (λ (now : Callers). GoesWith first from to old now till came) (sym (is ∙ ap (λ (w : Option Caller). with_place place w old) turned)) (
+        record {
+          firsts = [];
+          lasts = slice_set till.lasts c.number seat;
+          heard = heard_by c.number on.acts;
+          serving = subst (λ (fs : List Seat). Serving Serves first to (with_place place (Some (caller c.number seat)) old) (story fs (slice_set till.lasts c.number seat) (till.heard ++ heard_by c.number on.acts))) (sym (append-nil till.firsts)) (record {
+            hall = hall_turn old.came first from to till c.number seat there.0 serving.hall on;
+            seated = seated_turn old till.lasts place c seat serving.hall.lasts here serving.seated;
+          });
+          came = omega arith;
+          gone = λ n lt is. (
+            gone_set old old.came place n (caller c.number seat) (within_places old place c here) (is place c here) is,
+            get_or-set_other till.lasts c.number n seat nobody (λ same. is place c here (sym same)),
+            of_other n c.number on.acts (is place c here),
+          );
+        },
+        among_none came,
+      )
 
   comes_on : (from to : Between D) (came : List Begun) (old new : Callers) → to ≡ from → LetsIn came old new → LeadsOn Serves from to came old new
   unfolding goes_come

@@ -20,8 +20,9 @@ pub fn callers_go_on<T: Ticks, D: Desk>()
 
 /// The same of a hall from its opening on: of all who came each has its own acts.
 pub fn each_has_its_own<T: Ticks, D: Desk>()
-    ensures { (from to : Between D) (came : List Begun) (count : ℕ) (now : Callers) (order : List Next)
-        → DoesAll (AtTick T.reads D.serves) from to came (callers 0 (replicate count None)) now order
+    ensures { (from to : Between D) (came : List Begun) (count : ℕ) (now : Callers)
+        (order : List Next) → DoesAll (AtTick T.reads D.serves) from to came
+        (callers 0 (replicate count None)) now order
         → (all : Story) × Hall (AtTick T.reads D.serves) now.came from to all
         × AreAmong all.firsts came }
 {}

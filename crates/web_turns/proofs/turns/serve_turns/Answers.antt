@@ -11,10 +11,12 @@ pub loop-next-preserved : goal.loop-next-preserved
 loop-next-preserved g c =
     let S = AtTick g.T.Ticks.reads g.D.Desk.serves in
     let from = between (g.T.Ticks.told c.args.ticks.now) c.args.desk.now in
-    let to = between (g.T.Ticks.told c.do_next.new.ticks) c.do_next.new.desk in
-    (c.loop-next.invariant.0 ++ c.do_next.ensures.does.0, subst (λ (order : List Next). DoesAll S from to (c.loop-next.invariant.0 ++ c.do_next.ensures.does.0) c.args.hall.now c.do_next.new.hall order)
-    (sym (take_more c.args.order.now c.loop-next.next-index _ c.loop-next-test.true))
-    (does_more S from _ to c.loop-next.invariant.0 c.do_next.ensures.does.0 c.args.hall.now _ c.do_next.new.hall _ _ c.loop-next.invariant.1 c.do_next.ensures.does.1))
+    let to = between (g.T.Ticks.told c.do_next.new.ticks) c.do_next.new.desk in (
+      c.loop-next.invariant.0 ++ c.do_next.ensures.does.0,
+      subst (λ (order : List Next). DoesAll S from to (c.loop-next.invariant.0 ++ c.do_next.ensures.does.0) c.args.hall.now c.do_next.new.hall order)
+          (sym (take_more c.args.order.now c.loop-next.next-index _ c.loop-next-test.true))
+          (does_more S from _ to c.loop-next.invariant.0 c.do_next.ensures.does.0 c.args.hall.now _ c.do_next.new.hall _ _ c.loop-next.invariant.1 c.do_next.ensures.does.1),
+    )
 
 pub loop-next-init : goal.loop-next-init
 loop-next-init g c = ([], (refl, refl, refl))
