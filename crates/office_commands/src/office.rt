@@ -137,22 +137,11 @@ impl<B: Book> Office<B> {
     {
         self.book.reserve(changes)
     }
-
-    /// Makes these changes at a moment that isn't before the office's. There is room for them, and the office stays sound.
-    pub fn adopt(&mut self, changes: Changes, at: Moment)
-        requires room { weight changes.list ≤ self.old.room }
-        requires moment { self.old.state.moment ≤ at }
-        requires sound { IsSound (changes_applied changes at self.old.state) }
-        ensures state { self.new.state ≡ changes_applied changes at self.old.state }
-        ensures organizer { self.new.organizer ≡ self.old.organizer }
-        ensures event { self.new.event ≡ self.old.event }
-    {
-        self.book.apply(changes, at);
-    }
 }
 
 impl<B: Dues> Office<B> {
-    /// Makes these changes, as `adopt` does, where the counts that they change are known: the book need not count.
+    /// Makes these changes at a moment that isn't before the office's. There is room for them, the counts that they change are given, and
+    /// the office stays sound.
     pub fn settle(&mut self, changes: Changes, counts: &CountRows, at: Moment)
         requires room { weight changes.list ≤ self.old.room }
         requires moment { self.old.state.moment ≤ at }
