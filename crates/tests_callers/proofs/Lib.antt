@@ -1,1 +1,2 @@
+pub mod ComeLemmas
 pub mod MergeLemmas

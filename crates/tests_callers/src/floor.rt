@@ -1,12 +1,13 @@
 //! A hall, who is in it, and what those who left were told.
 
 use crate::party::Guest;
+use crate::turns::serve_turns;
 use base_devices::{Device, Ticks};
 use std::alloc::{AllocError, Global};
 use std::sync::ledger::Ledger;
 use web_connection::{Desk, Piece};
 use web_sockets::Script;
-use web_turns::{Hall, Next, serve_turns};
+use web_turns::{Hall, Next};
 
 /// A hall over memory, who is still to come, the last of them first, and what each caller was told who left.
 #[derive(Drop)]

@@ -10,6 +10,7 @@ mod outcomes;
 mod party;
 mod serving;
 mod told;
+mod turns;
 mod words;
 
 pub use error::TogetherError;

@@ -1,4 +1,3 @@
-pub mod ComeLemmas
 pub mod HallLemmas
 pub mod RecordLemmas
 pub mod StoryLemmas

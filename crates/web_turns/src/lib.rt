@@ -12,4 +12,4 @@ pub use hall::Hall;
 pub use place::Place;
 pub use stage::{Needs, Stage};
 pub use talk::Talk;
-pub use turns::{Next, serve_turns};
+pub use turns::Next;

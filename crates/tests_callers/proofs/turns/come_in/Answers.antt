@@ -1,6 +1,6 @@
 use Rattle.std.proofs.Common.{refl}
-use Rattle.web_turns.proofs.ComeLemmas.{some_came}
-use Rattle.web_turns.proofs.turns.come_in.Goals as goal
+use Rattle.tests_callers.proofs.ComeLemmas.{some_came}
+use Rattle.tests_callers.proofs.turns.come_in.Goals as goal
 
 pub returns : goal.returns
 returns g c = some_came c.let_in.result _ _ c.in-Some.place _ _ c.in-Some.ensures.some c.let_in.ensures.come c.let_in.ensures.same

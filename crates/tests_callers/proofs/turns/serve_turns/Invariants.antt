@@ -3,7 +3,7 @@ use Rattle.web_sockets.specs.Comers.{Begun}
 use Rattle.web_connection.specs.Run.{AtTick}
 use Rattle.web_turns.specs.Acts.{between}
 use Rattle.web_turns.specs.Halls.{DoesAll}
-use Rattle.web_turns.proofs.turns.serve_turns.Given as goal
+use Rattle.tests_callers.proofs.turns.serve_turns.Given as goal
 
 abbrev pub invariant-loop-next : goal.invariant-loop-next
 invariant-loop-next g l =

@@ -5,7 +5,7 @@ use Rattle.web_turns.specs.Acts.{between}
 use Rattle.web_turns.specs.Halls.{DoesAll}
 use Rattle.web_turns.specs.declared.turns.Next.{Next}
 use Rattle.web_turns.proofs.StoryLemmas.{does_more}
-use Rattle.web_turns.proofs.turns.serve_turns.Goals as goal
+use Rattle.tests_callers.proofs.turns.serve_turns.Goals as goal
 
 pub loop-next-preserved : goal.loop-next-preserved
 loop-next-preserved g c =
