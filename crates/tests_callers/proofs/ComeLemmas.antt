@@ -1,6 +1,6 @@
 -- Who comes to a place.
 use Rattle.std.proofs.Common.{◌≡◌, inl, inr, List, [], ◌∷◌, ℕ, Option, Result, Ok, Err, OnOk, OnErr, refl}
-use Rattle.web_sockets.specs.Comers.{Begun, begun}
+use Rattle.web_sockets.specs.Comers.{Begun, as_begun}
 use Rattle.web_turns.specs.Talks.{talk_begun}
 use Rattle.web_turns.specs.Halls.{Callers, IsFree, LetsIn, with_caller}
 
@@ -11,10 +11,10 @@ nobody_came old new is = ([], is)
 -- one who came in
 pub one_came : (old new : Callers) (place : ℕ) (coming gone : Option (List ℕ)) → IsFree place old → new ≡ with_caller place (talk_begun coming gone) old
     → (came : List Begun) × LetsIn came old new
-one_came old new place coming gone free is = (begun coming gone ∷ [], (refl, inr (place, free, is)))
+one_came old new place coming gone free is = (as_begun coming gone ∷ [], (refl, inr (place, free, is)))
 
 -- one who came in, or for whom there was no memory
 pub some_came : {X Y : Type 0} (result : Result X Y) (old new : Callers) (place : ℕ) (coming gone : Option (List ℕ)) → IsFree place old
     → OnOk result (new ≡ with_caller place (talk_begun coming gone) old) → OnErr result (new ≡ old) → (came : List Begun) × LetsIn came old new
 some_came (Ok x) old new place coming gone free is same = one_came old new place coming gone free is
-some_came (Err y) old new place coming gone free is same = (begun coming gone ∷ [], (refl, inl same))
+some_came (Err y) old new place coming gone free is same = (as_begun coming gone ∷ [], (refl, inl same))

@@ -8,7 +8,7 @@ ghost use Rattle.web_turns.specs.Halls.{IsFree, LetsIn, at_place, callers, place
 ghost use Rattle.web_server.specs.Places.{GoesFirst, MakesRoom, NobodyIsThere, crowd_at, crowd_to, readiness_at};
 ghost use Rattle.web_server.specs.Times.{EndsLate, is_late, noted_at, stays};
 ghost use Rattle.web_server.specs.Visits.{Clears, Hosts, Rearranged, Reseats};
-ghost use Rattle.web_sockets.specs.Comers.{begun};
+ghost use Rattle.web_sockets.specs.Comers.{as_begun};
 
 use crate::clock::System;
 use crate::log::{Log, Parted};
@@ -179,7 +179,7 @@ impl<'a, R: Clock + System + Console, E: Ends> House<'a, R, E> {
         requires { IsFree place self.old.hall }
         ensures listens { N.listens network.new ≡ N.listens network.old }
         ensures lets { LetsIn
-            (begun (E.left ends) (E.taken ends) ∷ []) self.old.hall self.new.hall }
+            (as_begun (E.left ends) (E.taken ends) ∷ []) self.old.hall self.new.hall }
         ensures came { N.came network.new ≡ N.came network.old }
         ensures left { self.new.left ≡ self.old.left }
         ensures count { self.new.hall.came ≤ self.old.hall.came + 1 }
@@ -217,7 +217,7 @@ impl<'a, R: Clock + System + Console, E: Ends> House<'a, R, E> {
     fn welcome<N: Network<E>>(&mut self, alloc: Global, network: &mut N, ends: E, now: u64)
         requires { 0 < self.old.left }
         ensures listens { N.listens network.new ≡ N.listens network.old }
-        ensures comes { Rearranged (begun (E.left ends) (E.taken ends) ∷ [])
+        ensures comes { Rearranged (as_begun (E.left ends) (E.taken ends) ∷ [])
             self.old.hall self.new.hall }
         ensures count { self.new.hall.came + self.new.left
             ≤ self.old.hall.came + self.old.left }

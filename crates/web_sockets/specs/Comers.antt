@@ -10,12 +10,13 @@ pub record Begun : Type 0 where
   pub coming : Option (List ℕ)
   pub gone : Option (List ℕ)
 
-abbrev pub begun : Option (List ℕ) → Option (List ℕ) → Begun
-begun coming gone = record { coming = coming; gone = gone }
+-- a caller of whom this will come, and who was brought that so far
+abbrev pub as_begun : Option (List ℕ) → Option (List ℕ) → Begun
+as_begun coming gone = record { coming = coming; gone = gone }
 
 -- a look at the door: whoever is there came behind all others; else nobody did
 abbrev pub ComesNext : {E : Type 0} → (E → Option (List ℕ)) → (E → Option (List ℕ)) → Result (Comer E) Refused → Option (List Begun) → Option (List Begun) → Type 0
-ComesNext left taken (Ok (comers.Here ends)) old new = Adds old (begun (left ends) (taken ends) ∷ []) new
+ComesNext left taken (Ok (comers.Here ends)) old new = Adds old (as_begun (left ends) (taken ends) ∷ []) new
 ComesNext left taken (Ok comers.Gone) old new = new ≡ old
 ComesNext left taken (Ok comers.Nobody) old new = new ≡ old
 ComesNext left taken (Ok comers.Wants) old new = new ≡ old
