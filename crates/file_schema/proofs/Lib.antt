@@ -12,4 +12,3 @@ pub mod Standing
 pub mod Creating
 pub mod Makes
 pub mod WholeLemmas
-pub mod ByTree

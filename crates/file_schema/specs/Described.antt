@@ -250,10 +250,6 @@ delete_text d = codes "DELETE FROM " ++ d.name ++ codes " WHERE " ++ rowid_name 
 abbrev pub select_text : Described → List ℕ
 select_text d = codes "SELECT " ++ with_commas (column_names d) ++ codes " FROM " ++ d.name ++ codes " ORDER BY " ++ rowid_name d.key
 
--- INSERT, or UPDATE of the row that has the number
-abbrev pub put_text : Described → List ℕ
-put_text d = insert_text d ++ codes " ON CONFLICT (" ++ rowid_name d.key ++ codes ") DO UPDATE SET " ++ with_commas (sets d)
-
 -- ---- by the first column, of a table whose rows have an owner in it
 
 -- the name of the first field

@@ -5,10 +5,8 @@ use Rattle.sqlite_value.specs.Order.{Row}
 use Rattle.sqlite_trees.specs.Tree.{rowid}
 use Rattle.sqlite_trees.specs.View.{is_int}
 use Rattle.sqlite_schema.specs.declared.command.Command.{Command}
-use Rattle.sqlite_schema.specs.declared.command.Command.TheVariants.{Insert, InsertOr, Update}
-use Rattle.sqlite_schema.specs.declared.command.Conflict.TheVariants.{Abort}
+use Rattle.sqlite_schema.specs.declared.command.Command.TheVariants.{Insert, Update}
 use Rattle.sqlite_schema.specs.declared.command.Source.TheVariants.{Values}
-use Rattle.sqlite_schema.specs.declared.command.Upsert.{Upsert}
 use Rattle.sqlite_sql.specs.Term.{Term, lit, col, eval_all}
 use Rattle.sqlite_rules.specs.Cast.{cast_row}
 use Rattle.sqlite.specs.Effect.{value_rows}
@@ -17,7 +15,7 @@ use Rattle.file_schema.specs.Plain.{IsPlainTable}
 use Rattle.file_schema.specs.Parts.{row_shown, with_rows, without}
 use Rattle.file_schema.specs.Shapes.{AsksFor, places, over, plainly, equals, delete_keyed}
 use Rattle.file_rows.specs.Tables.{Tables, parts}
-use Rattle.file_schema.specs.Described.{Described, table_of, insert_text, update_text, delete_text, put_text}
+use Rattle.file_schema.specs.Described.{Described, table_of, insert_text, update_text, delete_text}
 
 -- the parameters as a row: the number, and then the columns; of a table with an INTEGER PRIMARY KEY the first column is stored as NULL
 abbrev behind_number : Option (List ℕ × Option (List ℕ)) → List Term → List Term
@@ -44,21 +42,12 @@ update_terms d = col 1 0 ∷ col 1 0 ∷ given_terms d
 abbrev pub update_of : Described → ℕ → Command
 update_of d at = Update at (plainly (over d.tree (equals (col 1 0) (col 0 0) ∷ []) (update_terms d) []))
 
--- the number of the row that stands in the way is given behind the parameters
-abbrev pub put_clause : Described → Upsert
-put_clause d = record { target = Some (0 ∷ []); update = Some (plainly (over d.tree (equals (col 1 0) (col 0 (length d.fields + 1)) ∷ []) (update_terms d) [])) }
-
--- INSERT, or UPDATE of the row that has the number
-abbrev pub put_of : Described → ℕ → Command
-put_of d at = InsertOr at Abort (Values (col 0 0 ∷ given_terms d) (width_of d)) (put_clause d ∷ [])
-
 -- over a shop's tables each text asks for its command, at this place of the schema
 pub record IsAsked (d : Described) (at : ℕ) : Type 0 where
   pub plain : IsPlainTable schema at (table_of d)
   pub inserts : AsksFor (insert_of d at) (insert_text d)
   pub updates : AsksFor (update_of d at) (update_text d)
   pub removes : AsksFor (delete_keyed at d.tree) (delete_text d)
-  pub puts : AsksFor (put_of d at) (put_text d)
 
 -- a row as it is stored behind its number
 abbrev pub stored_in : Option (List ℕ × Option (List ℕ)) → Row → Row

@@ -1,11 +1,10 @@
 //! Many connections at once, in one thread.
 
-ghost use Rattle.std.specs.Prelude.{◌≡◌, ◌-◌, None, false, true, nat_le, replicate, IfErr, IfOk, IsOkUnless};
+ghost use Rattle.std.specs.Prelude.{◌≡◌, ◌-◌, None, false, true, nat_le, IsOkUnless};
 ghost use Rattle.base_devices.specs.Blanks.{IsBlankOf};
 ghost use Rattle.web_connection.specs.Run.{AtTick};
 ghost use Rattle.web_cli.specs.declared.fault.RunFault.TheVariants.{Listen};
 ghost use Rattle.web_turns.specs.Acts.{between};
-ghost use Rattle.web_turns.specs.Halls.{callers};
 ghost use Rattle.web_server.specs.Times.{EndsLate};
 ghost use Rattle.web_server.specs.Visits.{AnswersCallers, Clears, Hosts, RoundsEnd, most_of};
 
@@ -18,7 +17,7 @@ use base_values::Steps;
 use std::alloc::Global;
 use std::marker::Brand;
 use std::sync::ledger::{Blank, Ledger};
-use std::time::{Clock, Duration, Instant};
+use std::time::{Clock, Instant};
 use web_cli::{Console, RunFault};
 use web_connection::{Desk, Piece};
 use web_sockets::{Ends, Network};

@@ -1,6 +1,6 @@
 //! Laws of many callers at one desk.
 
-ghost use Rattle.std.specs.Prelude.{List, ◌≡◌, ℕ, None, replicate};
+ghost use Rattle.std.specs.Prelude.{List, ℕ, None, replicate};
 ghost use Rattle.web_connection.specs.Run.{AtTick};
 ghost use Rattle.web_sockets.specs.Comers.{Begun};
 ghost use Rattle.web_turns.specs.Acts.{Between};

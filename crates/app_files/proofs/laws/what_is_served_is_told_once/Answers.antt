@@ -1,7 +1,6 @@
 use Rattle.std.proofs.Common.{None, subst}
 use Rattle.sqlite.specs.Held.{state}
 use Rattle.sqlite.specs.State.{HasCleanDisk}
-use Rattle.sqlite.specs.declared.connection.Connection.{Connection}
 use Rattle.web_connection.specs.Run.{AtTick}
 use Rattle.web_arrivals.specs.Streams.{ServesList}
 use Rattle.web_server.specs.Visits.{most_of}
