@@ -1,5 +1,5 @@
 -- The join of order positions, their orders and their vouchers: what it shows of the rows of the tables.
-use Rattle.std.proofs.Common.{◌≡◌, ℕ, Bool, true, false, cond, ◌&&◌, List, [], ◌∷◌, ◌++◌, map, filter, refl, sym, ap, ◌∙◌, arith, append-nil}
+use Rattle.std.proofs.Common.{◌≡◌, Bool, true, false, cond, ◌&&◌, List, [], ◌∷◌, ◌++◌, map, filter, refl, sym, ap, ◌∙◌, arith, append-nil}
 use Rattle.std.specs.List.{flat_map}
 use Rattle.std.specs.List.Sorted.{IsPermutation}
 use Rattle.std.proofs.lemmas.List.Sorted.{IsPermutation-trans, length_permutation}
@@ -52,9 +52,6 @@ lines positions orders vouchers = flat_map (λ p. flat_map (lines_of p vouchers)
 map_cond : {A B : Type 0} (f : A → B) (b : Bool) (x : A) → map f (cond b (x ∷ []) []) ≡ cond b (f x ∷ []) []
 map_cond f true x = refl
 map_cond f false x = refl
-
-shows : ℕ → Row → Row
-shows tree = row_shown schema tree
 
 module _ (lost : Value) (db : Trees) (params : Row) where
   -- a position, an order, and the vouchers that are named

@@ -1,5 +1,5 @@
 -- The lines of an export are the order positions, and rise by order and number there.
-use Rattle.std.proofs.Common.{◌≡◌, ◌≢◌, ℕ, suc, pos, ◌+◌, ◌*◌, ◌<◌, ◌≤◌, ◌==◌, Bool, true, false, cond, List, [], ◌∷◌, ◌++◌, map, filter, length, refl, sym, ap, subst, ◌∙◌, arith, append_assoc, slice_index_or, if◌then◌else◌, Ordering, Less, Equal, Greater, int_cmp}
+use Rattle.std.proofs.Common.{◌≡◌, ◌≢◌, ℕ, suc, pos, ◌+◌, ◌*◌, ◌<◌, ◌≤◌, ◌==◌, Bool, true, false, cond, List, [], ◌∷◌, ◌++◌, map, filter, length, refl, sym, ap, subst, ◌∙◌, arith, append_assoc, slice_index_or, if◌then◌else◌, Less, Equal, Greater, int_cmp}
 use Rattle.std.specs.Prelude.{nat_le}
 use Rattle.std.specs.List.{AllByRecursion, flat_map}
 use Rattle.std.specs.List.Sorted.{IsPermutation, IsSorted}
@@ -116,9 +116,6 @@ module _ (lists : Lists) where
 
 abbrev pub sorted_as : ExportRow → Output
 sorted_as e = (number e.order ∷ number e.positionid ∷ [], cells e)
-
-by_number : (a b : ℕ) (o : Ordering) → int_cmp (pos a) (pos b) ≡ o → value_cmp (number a) (number b) ≡ o
-by_number a b o is = value_cmp-Int (pos a) (pos b) ∙ is
 
 equal_number : (a b : ℕ) → int_cmp (pos a) (pos b) ≡ Equal → a ≡ b
 equal_number a b h = grind (arith, ints)

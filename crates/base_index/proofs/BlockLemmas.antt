@@ -47,12 +47,6 @@ all_before [] (suc k) h = refl
 all_before (x ∷ xs) zero h = sym (none (x ∷ xs) (λ b. h b (omega arith)))
 all_before (x ∷ xs) (suc k) h = ap (λ (l : List ℕ). x ++ l) (all_before xs k (λ b le. h (suc b) (omega arith)))
 
-pub none_behind : (bs : List (List ℕ)) (k : ℕ) → ((b : ℕ) → k ≤ b → get_or bs b [] ≡ []) → concat (drop k bs) ≡ []
-none_behind [] zero h = refl
-none_behind [] (suc k) h = refl
-none_behind (x ∷ xs) zero h = none (x ∷ xs) (λ b. h b (omega arith))
-none_behind (x ∷ xs) (suc k) h = none_behind xs k (λ b le. h (suc b) (omega arith))
-
 -- the number at a place of a block
 pub item_at : (bs : List (List ℕ)) (b r d : ℕ) → b < length bs → r < length (get_or bs b []) → get_or (concat bs) (start_of b bs + r) d ≡ get_or (get_or bs b []) r d
 item_at bs b r d lt within = ap (λ (l : List ℕ). get_or l (start_of b bs + r) d) (whole bs b lt) ∙ get_or-append-add (concat (take b bs)) (get_or bs b [] ++ concat (drop (suc b) bs)) r d ∙ get_or_append_left (get_or bs b []) (concat (drop (suc b) bs)) d r within

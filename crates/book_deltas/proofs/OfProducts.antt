@@ -16,9 +16,6 @@ use Rattle.book_deltas.specs.Turns.{position_shift}
 use Rattle.book_deltas.specs.Shifts.{map_beside, only, count_moved, cart_shift, waiting_shift}
 use Rattle.book_deltas.proofs.TouchedLemmas.{beside_alike}
 
-pub both : (n come gone : ℕ) → count_moved (count_moved n come 0) 0 gone ≡ count_moved n come gone
-both n come gone = omega arith
-
 -- where a row isn't in the quota, nothing moves
 pub either : {X : Type 0} (b : Bool) (x y : X) → (b ≡ false → x ≡ y) → (if b then x else y) ≡ x
 either true x y h = refl

@@ -58,13 +58,6 @@ same_ids a b c d same = elim (eqb_tells a b) [
 ]
 
 module _ (table id : ℕ) (log : List Change) (count : ℕ) where
-  -- the last place of all is later
-  pub later_starts : (found : Option ℕ) → count ≤ length log → found ≡ last_place (touches table id) log → IsLater table id log count found
-  later_starts found le is = record {
-    front = length log;
-    at_least = le;
-    within = omega arith;
-    is = is ∙ ap (last_place (touches table id)) (sym (all_taken log));
   }
     where
       all_taken : (l : List Change) → take (length l) l ≡ l

@@ -23,22 +23,6 @@ use Rattle.book_deltas.specs.Spends.{AreSpent}
 use Rattle.book_settle.specs.Settled.{nothing, used_at, used_if, redeemed_at, redeemed_if, spent_at, spent_if, ArePutsNew, AreSmall}
 use Rattle.book_settle.proofs.Puts.{same_map_where}
 
--- only a put quota changes the quotas
-pub quotas_stay : (change : Change) (lists : Lists) → ((row : Quota) → change ≡ PutQuota row → ⊥) → (after_change change lists).catalogue.quotas ≡ lists.catalogue.quotas
-quotas_stay (PutItem row) lists not_put = refl
-quotas_stay (PutVariation row) lists not_put = refl
-quotas_stay (PutQuota row) lists not_put = absurd (not_put row refl)
-quotas_stay (PutVoucher row) lists not_put = refl
-quotas_stay (PutCart row) lists not_put = refl
-quotas_stay (PutOrder row) lists not_put = refl
-quotas_stay (PutPosition row) lists not_put = refl
-quotas_stay (PutWaiting row) lists not_put = refl
-quotas_stay (DropVoucher id) lists not_put = refl
-quotas_stay (DropCart id) lists not_put = refl
-quotas_stay (DropWaiting id) lists not_put = refl
-quotas_stay (PutCheckinList row) lists not_put = refl
-quotas_stay (PutCheckin row) lists not_put = refl
-
 -- no quota goes
 pub none_goes : (id : ℕ) (change : Change) (lists : Lists) → row_at (λ q. q.id) id (after_change change lists).catalogue.quotas ≡ None → row_at (λ q. q.id) id lists.catalogue.quotas ≡ None
 none_goes id (PutQuota row) lists e =

@@ -2,4 +2,3 @@ pub mod OrderSums
 pub mod Redeemed
 pub mod Spent
 pub mod VoucherCounts
-pub mod CoverLemmas

@@ -24,11 +24,6 @@ use Rattle.decide_vouchers.proofs.Made.{made_is, made_sound, made_moment}
 
 -- ---- one after another
 
--- rows one after another are those in front, and then the others
-pub rows_joined : (xs ys : List NewVoucher) (draw : Draw) (state : State) → rows_imported (xs ++ ys) draw state ≡ after_verdicts (rows_imported xs draw state).1 (rows_imported ys draw (rows_imported xs draw state).0)
-rows_joined [] ys draw state = refl
-rows_joined (x ∷ xs) ys draw state = ap (with_verdict (row_imported x draw state).1) (rows_joined xs ys draw (row_imported x draw state).0)
-
 -- one row more
 pub row_joined : (verdicts new : List Verdict) (verdict : Verdict) (row : NewVoucher) (all rest : List NewVoucher) (draw : Draw) (before after : State) → all ≡ row ∷ rest → row_imported row draw before ≡ (after, verdict) → new ≡ verdicts ++ verdict ∷ [] → after_verdicts new (rows_imported rest draw after) ≡ after_verdicts verdicts (rows_imported all draw before)
 row_joined verdicts new verdict row all rest draw before after left made joined =

@@ -88,9 +88,6 @@ least_end f counts i least past is = record { clear = λ place lt below. is.clea
     further (Some j) lt = omega (arith, lt, past)
 
 module _ (passes : Quota → Bool) (quotas : List Quota) (counts : List (Count Usage)) where
-  abbrev found : ℕ → Option ℕ
-  found place = found_at (λ q. q.id) passes quotas place
-
   pub none_over : IsLeast (found_at (λ q. q.id) passes quotas) counts (length counts) None → option_map (λ (q : Quota). q.id) (find passes quotas) ≡ None
   none_over is = found_none (λ (q : Quota). q.id) passes quotas (λ place. is.clear place (newest_within place counts) tt)
 

@@ -17,8 +17,6 @@ use Rattle.model_catalogue.specs.CatalogueLists.{CatalogueLists, quota_at}
 use Rattle.model_catalogue.specs.Kept.{quotas_of}
 use Rattle.model_catalogue.specs.Member.{is_in}
 use Rattle.model_rows.proofs.Found.{each_found}
-use Rattle.model_rows.specs.declared.rows.Voucher.{Voucher}
-use Rattle.model_rows.specs.Usage.{blocks_if}
 use Rattle.model_rows.specs.declared.rows.Usage.{Usage}
 use Rattle.book_tally.specs.declared.tally.Count.{Count}
 use Rattle.book_tally.specs.Amounts.{nothing, plus}
@@ -30,9 +28,6 @@ use Rattle.draft_deltas.specs.Touched.{IsOther, NoOther, NoneElse, Keeps, among,
 use Rattle.draft_deltas.proofs.Values.{count_push}
 
 -- ---- ids behind others
-
-pub keeps_all : (ids : List ℕ) → Keeps ids ids
-keeps_all ids id h = h
 
 pub absent_more : (old more new : List ℕ) → new ≡ old ++ more → (id : ℕ) → has id new ≡ false → has id more ≡ false
 absent_more old more new is id h = (neither (has id old) (has id more) (sym (ap (has id) is ∙ has-append id old more) ∙ h)).1
@@ -195,9 +190,6 @@ no_more_pass test spots i d old new lists lt is keeps before here q other =
     ∙ omega (arith, before q (other_before old new lists q keeps other), ap {B = ℕ} (λ b. if b then 1 else 0) (ap (test q) (sym is) ∙ here q other))
 
 -- ---- one place, and one voucher
-
-pub no_voucher : (ids : List ℕ) (lists : CatalogueLists) (voucher : Option Voucher) → voucher ≡ None → (at : ℕ) → NoOther ids lists (λ q. blocks_if at q voucher)
-no_voucher ids lists voucher is at q other = ap (blocks_if at q) is
 
 pub on_ok_three : {A E : Type 0} {P Q R S : Type 0} (r : Result A E) → (P → Q → R → S) → OnOk r P → OnOk r Q → OnOk r R → OnOk r S
 on_ok_three (Ok x) f p q r = f p q r

@@ -7,23 +7,9 @@ use Rattle.model_rows.specs.declared.rows.Usage.{Usage}
 use Rattle.model_rows.specs.declared.rows.Status.TheVariants.{Pending, Paid, Expired, Cancelled}
 use Rattle.model_rows.specs.Conditions.{is_paid, is_pending, is_in_force}
 use Rattle.model_rows.specs.Usage.{stands_as}
-use Rattle.book_tally.specs.declared.amount.Uses.{Uses}
-use Rattle.book_tally.specs.Amounts.{nothing, plus, no_uses, plus_uses}
-use Rattle.book_tally.proofs.AmountLemmas.{same_usage, alone, alone_uses}
+use Rattle.book_tally.specs.Amounts.{nothing}
+use Rattle.book_tally.proofs.AmountLemmas.{same_usage}
 use Rattle.draft_deltas.specs.Shift.{order_counts, sold_as, usage_of_places, unless_kept}
-
-pub if_more : (u v : Usage) (b : Bool) → (if b then plus u v else u) ≡ plus u (if b then v else nothing)
-if_more u v true = refl
-if_more u v false = sym (alone u)
-
--- where nothing comes, nothing is added
-pub if_none : (u v : Usage) (b : Bool) → v ≡ nothing → u ≡ plus u (if b then v else nothing)
-if_none u v true none = sym (ap (plus u) none ∙ alone u)
-if_none u v false none = sym (alone u)
-
-pub if_more_uses : (u v : Uses) (b : Bool) → (if b then plus_uses u v else u) ≡ plus_uses u (if b then v else no_uses)
-if_more_uses u v true = refl
-if_more_uses u v false = sym (alone_uses u)
 
 -- an order without positions counts nothing
 pub none_ordered : (order other : Option Order) → order_counts order other 0 0 0 ≡ nothing

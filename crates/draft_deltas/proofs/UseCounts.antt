@@ -1,5 +1,5 @@
 -- Uses that are counted one after another.
-use Rattle.std.proofs.Common.{◌≡◌, ℕ, ◌+◌, ◌<◌, Bool, true, false, ◌&&◌, List, length, take, get_or, count_by, sum_by, Option, refl, sym, ap, ap₂, ◌∙◌, arith}
+use Rattle.std.proofs.Common.{◌≡◌, ℕ, ◌+◌, ◌<◌, Bool, true, false, ◌&&◌, List, length, take, get_or, count_by, sum_by, refl, sym, ap, ap₂, ◌∙◌, arith}
 use Rattle.std.specs.Prelude.{if◌then◌else◌, not}
 use Rattle.std.proofs.lemmas.List.{take_more}
 use Rattle.model_rows.specs.declared.rows.CartPos.{CartPos}
@@ -17,7 +17,7 @@ use Rattle.book_tally.specs.Counts.{came, went, GoesOn}
 use Rattle.book_tally.proofs.AmountLemmas.{same_uses, alone_uses}
 use Rattle.book_tally.proofs.Newest.{on_same, on_both}
 use Rattle.draft_deltas.specs.Counts.{AreMoreUses}
-use Rattle.draft_deltas.specs.Uses.{held_by, one_discount, purchase_uses, used_by, used_since, use_come, use_gone}
+use Rattle.draft_deltas.specs.Uses.{one_discount, purchase_uses, used_since, use_come, use_gone}
 use Rattle.draft_deltas.proofs.Values.{count_push, sum_push}
 
 pub no_more_uses : (counts : List (Count Uses)) → AreMoreUses (λ v. no_uses) (λ v. no_uses) counts counts
@@ -31,43 +31,6 @@ same_more f f' g g' old new same same' is = record {
   on = is.on;
 }
 
--- where nothing comes of a named voucher, what came stays
-none_named : (u : Uses) (b : Bool) → (if b then plus_uses u no_uses else u) ≡ u
-none_named u true = alone_uses u
-none_named u false = refl
-
-held_one : (u : Uses) (v : ℕ) (name : Option ℕ) → (if names v name then plus_uses u (record { used = 0; held = 1; spent = 0 }) else u) ≡ plus_uses u (held_by v name)
-held_one u v name = by_name (names v name)
-  where
-    by_name : (b : Bool) → (if b then plus_uses u (record { used = 0; held = 1; spent = 0 }) else u) ≡ plus_uses u (record no_uses { held = if b then 1 else 0 })
-    by_name true = refl
-    by_name false = sym (alone_uses u)
-
-used_one : (u : Uses) (v : ℕ) (name : Option ℕ) (cents : ℕ) → (if names v name then plus_uses u (record { used = 1; held = 0; spent = cents }) else u) ≡ plus_uses u (used_by v name cents)
-used_one u v name cents = by_name (names v name)
-  where
-    by_name : (b : Bool) → (if b then plus_uses u (record { used = 1; held = 0; spent = cents }) else u) ≡ plus_uses u (record no_uses { used = if b then 1 else 0; spent = if b then cents else 0 })
-    by_name true = refl
-    by_name false = sym (alone_uses u)
-
--- a use in carts that comes, and one that goes
-pub held_more : (come gone : Option ℕ) (old mid new : List (Count Uses)) → ((v : ℕ) → came no_uses v mid ≡ (if names v come then plus_uses (came no_uses v old) (record { used = 0; held = 1; spent = 0 }) else came no_uses v old)) → ((v : ℕ) → went no_uses v mid ≡ (if names v come then plus_uses (went no_uses v old) no_uses else went no_uses v old)) → GoesOn old mid
-    → ((v : ℕ) → came no_uses v new ≡ (if names v gone then plus_uses (came no_uses v mid) no_uses else came no_uses v mid)) → ((v : ℕ) → went no_uses v new ≡ (if names v gone then plus_uses (went no_uses v mid) (record { used = 0; held = 1; spent = 0 }) else went no_uses v mid)) → GoesOn mid new
-    → AreMoreUses (λ v. held_by v come) (λ v. held_by v gone) old new
-held_more come gone old mid new comes goes on comes' goes' on' = record {
-  comes = λ v. comes' v ∙ none_named (came no_uses v mid) (names v gone) ∙ comes v ∙ held_one (came no_uses v old) v come;
-  goes = λ v. goes' v ∙ held_one (went no_uses v mid) v gone ∙ ap (λ (u : Uses). plus_uses u (held_by v gone)) (goes v ∙ none_named (went no_uses v old) (names v come));
-  on = on_both old mid new on on';
-}
-
--- a use in orders that comes, with its discount
-pub used_more : (come : Option ℕ) (cents : ℕ) (old new : List (Count Uses)) → ((v : ℕ) → came no_uses v new ≡ (if names v come then plus_uses (came no_uses v old) (record { used = 1; held = 0; spent = cents }) else came no_uses v old))
-    → ((v : ℕ) → went no_uses v new ≡ (if names v come then plus_uses (went no_uses v old) no_uses else went no_uses v old))
-    → GoesOn old new → AreMoreUses (λ v. used_by v come cents) (λ v. no_uses) old new
-used_more come cents old new comes goes on = record {
-  comes = λ v. comes v ∙ used_one (came no_uses v old) v come cents;
-  goes = λ v. goes v ∙ none_named (went no_uses v old) (names v come) ∙ sym (alone_uses (went no_uses v old));
-  on = on;
 }
 
 -- those of an order's purchases, one after another
@@ -99,13 +62,6 @@ none_since false true n m same = absurd (cc same)
 none_since false false n m same = refl
 
 module _ (force stood : Bool) (purchases : List Purchase) where
-  pub names_start : (old : List (Count Uses)) → AreMoreUses (λ v. purchase_uses force stood (take 0 purchases) v) (λ v. purchase_uses stood force (take 0 purchases) v) old old
-  names_start old = same_more (λ v. no_uses) (λ v. purchase_uses force stood (take 0 purchases) v) (λ v. no_uses) (λ v. purchase_uses stood force (take 0 purchases) v) old old (λ v. none (force && not stood)) (λ v. none (stood && not force)) (no_more_uses old)
-    where
-      none : (b : Bool) → no_uses ≡ record no_uses { used = if b then 0 else 0; spent = if b then 0 else 0 }
-      none true = refl
-      none false = refl
-
   pub names_more : (i : ℕ) (row : Purchase) → i < length purchases → row ≡ get_or purchases i row → (old mid new : List (Count Uses)) → AreMoreUses (λ v. purchase_uses force stood (take i purchases) v) (λ v. purchase_uses stood force (take i purchases) v) old mid
       → ((v : ℕ) → came no_uses v new ≡ (if names v row.voucher then plus_uses (came no_uses v mid) (used_since force stood 1 row.discount) else came no_uses v mid)) → ((v : ℕ) → went no_uses v new ≡ (if names v row.voucher then plus_uses (went no_uses v mid) (used_since stood force 1 row.discount) else went no_uses v mid)) → GoesOn mid new
       → AreMoreUses (λ v. purchase_uses force stood (take (i + 1) purchases) v) (λ v. purchase_uses stood force (take (i + 1) purchases) v) old new

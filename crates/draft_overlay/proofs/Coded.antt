@@ -202,13 +202,6 @@ module _ (code : List ℕ) (log : Log) where
               let none : is_none (last_place (touches 3 v.id) log.changes) ≡ true = ap (λ n. is_none (last_place (touches 3 n) log.changes)) own ∙ ap is_none is.1 in
               ap (passes_if alone) e ∙ ap (λ b. b && is_none (last_place (touches 3 v.id) log.changes)) f ∙ none
 
-  pub none_below : IsLeast (IsPutBelow 0 code log) None
-  none_below id is = by_place (last_place (touches 3 id) log.changes) is.1
-    where
-      by_place : (o : Option ℕ) → IsBelow 0 o → ⊥
-      by_place None b = b
-      by_place (Some p) b = absurd (omega (arith, b))
-
   -- a change that puts no voucher is the last one of none that stands
   none_put : (place : ℕ) (d : Change) → voucher_put (get_or log.changes place d) ≡ None → (id : ℕ) → IsPutAt place code log id → ⊥
   none_put place d none id is = cc (sym is.0 ∙ ap (passes_if same) (voucher_touched id log.changes log.base d place is.1 ∙ none))
@@ -250,31 +243,6 @@ module _ (code : List ℕ) (log : Log) where
       by_change (DropWaiting gone) e = none_put place d (ap voucher_put e)
       by_change (PutCheckinList row) e = none_put place d (ap voucher_put e)
       by_change (PutCheckin row) e = none_put place d (ap voucher_put e)
-
-  -- one place further on
-  pub put_more : (place : ℕ) (least found : Option ℕ) → IsLeast (IsPutBelow place code log) least → IsLeast (IsPutAt place code log) found → IsLeast (IsPutBelow (place + 1) code log) (lesser least found)
-  put_more place least found before now = lesser_least (IsPutBelow place code log) (IsPutAt place code log) (IsPutBelow (place + 1) code log) below at here_or_before least found before now
-    where
-      below : (id : ℕ) → IsPutBelow place code log id → IsPutBelow (place + 1) code log id
-      below id is = (is.0, further_on (last_place (touches 3 id) log.changes) is.1)
-        where
-          further_on : (o : Option ℕ) → IsBelow place o → IsBelow (place + 1) o
-          further_on None b = b
-          further_on (Some p) b = omega (arith, b)
-
-      at : (id : ℕ) → IsPutAt place code log id → IsPutBelow (place + 1) code log id
-      at id is = (is.0, subst (λ o. IsBelow (place + 1) o) (sym is.1) (omega arith))
-
-      here_or_before : (id : ℕ) → IsPutBelow (place + 1) code log id → IsPutBelow place code log id ⊎ IsPutAt place code log id
-      here_or_before id is = by_place (last_place (touches 3 id) log.changes) refl is.1
-        where
-          by_place : (o : Option ℕ) → last_place (touches 3 id) log.changes ≡ o → IsBelow (place + 1) o → IsPutBelow place code log id ⊎ IsPutAt place code log id
-          by_place None e b = absurd b
-          by_place (Some p) e b = by_order (eqb_tells p place)
-            where
-              by_order : ((eqb p place ≡ true) × (p ≡ place)) ⊎ ((eqb p place ≡ false) × (p ≢ place)) → IsPutBelow place code log id ⊎ IsPutAt place code log id
-              by_order (inl t) = inr (is.0, e ∙ ap (λ n. Some n) t.1)
-              by_order (inr t) = inl (is.0, subst (λ o. IsBelow place o) (sym e) (omega (arith, b, t.1)))
 
   -- the least of all that have the code
   pub code_least : (unchanged put : Option ℕ) → IsLeast (IsUnchanged code log) unchanged → IsLeast (IsPutBelow (length log.changes) code log) put → IsLeast (HasCode code log) (lesser unchanged put)

@@ -219,10 +219,6 @@ none_left : (rows : List ShopRow) → filter (λ r. not (1 == 1)) rows ≡ []
 none_left [] = refl
 none_left (r ∷ rows) = none_left rows
 
-listed_is : (rowid : ℕ) (ks : List Kept) (t : Tables) → with_listed rowid ks t ≡ record t { kept = (with_listed rowid ks t).kept }
-listed_is rowid [] t = refl
-listed_is rowid (k ∷ ks) t = refl
-
 pub all_but_kept : (at rowid : ℕ) (ks : List Kept) (t : Tables) → without_past at (with_listed rowid ks (without_past at t)) ≡ record t { kept = (without_past at (with_listed rowid ks (without_past at t))).kept }
 all_but_kept at rowid [] t = refl
 all_but_kept at rowid (k ∷ ks) t = refl

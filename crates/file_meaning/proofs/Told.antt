@@ -29,13 +29,6 @@ pub map_back : {T U : Type 0} (part : T → U) (whole : U → T) → ((r : T) �
 map_back part whole back [] = refl
 map_back part whole back (r ∷ rows) = ap₂ ◌∷◌ (back r) (map_back part whole back rows)
 
--- such rows in order are those whose parts are the same, in whatever order
-pub same_parts : {T U : Type 0} (key : T → ℕ) (part : T → U) (of : U → ℕ) → ((r : T) → of (part r) ≡ key r) → (whole : U → T) → ((r : T) → whole (part r) ≡ r) → (xs ys : List T) → AreInOrder key xs → AreInOrder key ys
-    → IsPermutation (map part xs) (map part ys) → xs ≡ ys
-same_parts key part of is whole back xs ys h k same =
-    let parts = same_order of (map part xs) (map part ys) (order_of_parts key part of is 0 xs h) (order_of_parts key part of is 0 ys k) same in
-    sym (map_back part whole back xs) ∙ ap (map whole) parts ∙ map_back part whole back ys
-
 -- rows whose parts are the same have the same ids
 ids_of_parts : {T U : Type 0} (key : T → ℕ) (part : T → U) (of : U → ℕ) → ((r : T) → of (part r) ≡ key r) → (xs ys : List T) → map part xs ≡ map part ys → map key xs ≡ map key ys
 ids_of_parts key part of is xs ys e = sym (keys xs) ∙ ap (map of) e ∙ keys ys

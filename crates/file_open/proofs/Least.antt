@@ -23,17 +23,6 @@ use Rattle.file_open.specs.Opened.{KeepsIn, IsLeastIn, IsDamagedBy, IsReason}
 use Rattle.file_open.specs.Why.{IsWhy, IsBroken}
 
 module _ (shop : ShopRow) (tokens : List Token) (rows : OfficeRows) (paired : Type 0) (file : File) where
-  -- the first two rules speak of nothing beside the office
-  early : (rule : Rule) → number rule < 3 → Keeps rule file → KeepsIn shop tokens rows paired file rule
-  early rules.Shop lt k = k
-  early rules.Limits lt k = k
-  early rules.Ids lt k = absurd (omega (arith, lt))
-  early rules.Names lt k = absurd (omega (arith, lt))
-  early rules.Positions lt k = absurd (omega (arith, lt))
-  early rules.Headroom lt k = absurd (omega (arith, lt))
-  early rules.Counters lt k = absurd (omega (arith, lt))
-  early rules.Budgets lt k = absurd (omega (arith, lt))
-
   pub kept_in : (rule : Rule) → AreBelowNext shop tokens → AreRowsOf file.state.lists rows → paired → Keeps rule file → KeepsIn shop tokens rows paired file rule
   kept_in rules.Shop below whole pairs k = k
   kept_in rules.Limits below whole pairs k = k

@@ -190,9 +190,6 @@ counts_with [] spents = refl
 counts_with (w ∷ vouchers) [] = refl
 counts_with (w ∷ vouchers) (x ∷ spents) = ap (λ l. count_in w x.spent ∷ l) (counts_with vouchers spents)
 
-pub paired_is : {A B : Type 0} (f : A → ℕ) (g : B → ℕ) (W : Type 0) (a b : List A) (x y : List B) → a ≡ b → x ≡ y → (W ↔ (map f a ≡ map g x)) → W ↔ (map f b ≡ map g y)
-paired_is f g W a b x y e h so = subst (λ rows. W ↔ (map f rows ≡ map g y)) e (subst (λ rows. W ↔ (map f a ≡ map g rows)) h so)
-
 -- ---- why rows aren't arranged
 
 -- a refusal that is handed on as it is

@@ -3,7 +3,6 @@ use Rattle.std.proofs.Common.{◌≡◌, ℕ, ◌+◌, ◌<◌, ◌≤◌, List,
 use Rattle.std.specs.List.{AllByRecursion}
 use Rattle.std.proofs.lemmas.Bool.Decides.{nat_tests}
 use Rattle.base_sorted.specs.Tables.{with_row, InOrderFrom, AreInOrder}
-use Rattle.base_sorted.specs.Rising.{with_ids}
 use Rattle.file_meaning.specs.Counts.{with_all}
 
 module _ {T : Type 0} (key : T → ℕ) where
@@ -28,7 +27,3 @@ module _ {T : Type 0} (key : T → ℕ) where
 
   pub all_put : (rows : List T) → AreInOrder key rows → with_all key rows [] ≡ rows
   all_put rows h = put_behind 0 rows [] h tt
-
-same_ids : (given ids : List ℕ) → with_ids given ids ≡ with_all (λ n. n) given ids
-same_ids [] ids = refl
-same_ids (id ∷ more) ids = same_ids more (with_row (λ n. n) id ids)

@@ -1,5 +1,5 @@
 -- Why a file isn't opened: one cause for another.
-use Rattle.std.proofs.Common.{◌≡◌, ◌⊎◌, inl, inr, ℕ, ℤ, pos, List, [], map, Result, Ok, Err, IfErr, refl, sym, subst, subst₂, ap, ◌∙◌}
+use Rattle.std.proofs.Common.{◌≡◌, ◌⊎◌, inl, inr, ℕ, ℤ, pos, List, [], map, sym, subst, subst₂, ap, ◌∙◌}
 use Rattle.std.specs.List.Sorted.{IsPermutation}
 use Rattle.sqlite_value.specs.declared.value.Value.TheVariants.{Int}
 use Rattle.sqlite_value.specs.Order.{Row, column}
@@ -21,17 +21,6 @@ use Rattle.file_reads.proofs.Loads.{command_is, shows_all}
 use Rattle.file_scan.specs.Causes.{ShowsBy, HasNoOtherVersion, IsOneShop}
 
 -- ---- one table
-
-joined : (F K D : Type 0) (e : RowError) → (e ≡ Foreign → F) → (K → IsFor ⊥ D e) → IsFor F (K → D) e
-joined F K D Memory f k = tt
-joined F K D Foreign f k = f refl
-joined F K D Damaged f k = k
-joined F K D Store f k = tt
-
--- 60 because the table lacks, 62 because a row is damaged where the tables are ours
-pub joined_err : {T : Type 0} (r : Result T RowError) (F K D : Type 0) → IfErr r (λ e. e ≡ Foreign → F) → (K → IfErr r (IsFor ⊥ D)) → IfErr r (IsFor F (K → D))
-joined_err (Ok x) F K D f k = tt
-joined_err (Err e) F K D f k = joined F K D e f k
 
 -- a query shows what a SELECT shows of what stood
 pub shown_by : (sql : List ℕ) (old new : State) (rows : List Row) → IsForReading old.now.schema sql → Shown sql [] old new rows → ShowsBy sql old.now rows

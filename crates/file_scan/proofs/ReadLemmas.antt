@@ -43,9 +43,6 @@ pub same_when : {T E : Type 0} (r : Result T E) (x : T) (P : T → Type 0) (Q : 
 same_when (Ok y) x P Q is h k = subst P (sym is) (k h)
 same_when (Err e) x P Q is h k = tt
 
-pub was_on : {T E : Type 0} (r : Result T E) (x : T) (Q : Type 0) → r ≡ Ok x → OnOk r Q → Q
-was_on r x Q is h = subst (λ s. OnOk s Q) is h
-
 pub was_err : {T E : Type 0} (r : Result T E) (e : E) (P : E → Type 0) → r ≡ Err e → IfErr r P → P e
 was_err r e P is h = subst (λ s. IfErr s P) is h
 

@@ -40,9 +40,6 @@ use Rattle.file_scan.specs.Stopped.{HasEndlessTable, IsStopped, WhereClosed, Whe
 more_before : (a b c : ℕ) → a ≤ b → MoreFaults b c → MoreFaults a c
 more_before a b c low h = omega arith
 
-more_after : (a b c : ℕ) → b ≤ c → MoreFaults a b → MoreFaults a c
-more_after a b c up h = omega arith
-
 -- what stopped a later call, where nothing had changed
 pub stopped_later : (old mid new : State) → IsUnchanged old mid → Survives old mid (λ _. ⊥) → IsStopped mid new → IsStopped old new
 stopped_later old mid new same first (inl more) = inl (more_before old.faults mid.faults new.faults first.counts more)

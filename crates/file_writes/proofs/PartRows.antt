@@ -22,10 +22,6 @@ use Rattle.file_rows.specs.Tables.{Tables, parts, Holds}
 use Rattle.file_rows.specs.Changes.{IsInside, Changes}
 use Rattle.file_writes.proofs.Found.{found_one, found_none}
 
--- two rows that begin alike and go on alike
-pub same_cons : {A : Type 0} {x y : A} {xs ys : List A} → x ≡ y → xs ≡ ys → x ∷ xs ≡ y ∷ ys
-same_cons e f = rw (e, f)
-
 module _ (at : ℕ) (table : Table) (is : IsPlainTable schema at table) (sql : List ℕ) (plain : IsPlain (understood schema sql)) (old new : State) (inside : IsInside old) (limit : new.step_limit ≡ old.step_limit)
     {A : Type 0} (row : A → Row) (id_of : A → ℕ) (keyed : (a : A) → rowid (row a) ≡ Int (pos (id_of a))) (field : Tables → List A)
     (held_at : (t : Tables) → Holds old.now.trees t → IsPermutation (map row (field t)) (map (row_shown schema table.tree) (old.now.trees table.tree)))

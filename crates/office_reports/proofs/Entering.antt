@@ -1,5 +1,5 @@
 -- Counting positions one after another finds who came in, item by item.
-use Rattle.std.proofs.Common.{◌≡◌, ◌≢◌, ℕ, ◌+◌, ◌≤◌, ◌<◌, Bool, true, false, cond, eqb, List, [], ◌∷◌, map, filter, get_or, set, length, drop, count_by, None, refl, sym, ap, ap₂, ◌∙◌, subst, arith}
+use Rattle.std.proofs.Common.{◌≡◌, ◌≢◌, ℕ, ◌+◌, ◌≤◌, ◌<◌, Bool, true, false, cond, eqb, List, [], ◌∷◌, map, filter, get_or, set, length, drop, count_by, None, refl, sym, ap, ◌∙◌, subst, arith}
 use Rattle.std.specs.Prelude.{if◌then◌else◌, ◌&&◌, ◌||◌}
 use Rattle.std.proofs.lemmas.Bool.Decides.{nat_tests}
 use Rattle.std.proofs.lemmas.List.{drop_more, drop_all, map-id}
@@ -123,11 +123,6 @@ Counted list lists all i first rows = record {
 
 pub nowhere : (list : CheckinList) (lists : Lists) (p : OrderPos) (b : Bool) (rows : List ItemEntries) → b ≡ false → rows ≡ map (counted_where b list lists p) rows
 nowhere list lists p b rows e = sym (map-id rows) ∙ ap (λ (x : Bool). map (counted_where x list lists p) rows) (sym e)
-
-pub somewhere : (list : CheckinList) (lists : Lists) (p : OrderPos) (b entered inside : Bool) (rows after : List ItemEntries) → b ≡ true
-    → entered ≡ has_entered list.id lists.checkins p → inside ≡ is_inside list.id lists.checkins p → after ≡ map (position_counted p.product.item entered inside) rows → after ≡ map (counted_where b list lists p) rows
-somewhere list lists p b entered inside rows after e entered_is inside_is are =
-    are ∙ ap₂ (λ (x y : Bool). map (position_counted p.product.item x y) rows) entered_is inside_is ∙ ap (λ (x : Bool). map (counted_where x list lists p) rows) (sym e)
 
 module _ (list : CheckinList) (lists : Lists) (all : List OrderPos) (i : ℕ) (p : OrderPos) (first rows : List ItemEntries) (at : i < length all) (is : p ≡ get_or all i p) (so_far : Counted list lists all i first rows) where
   left : drop i all ≡ p ∷ drop (i + 1) all

@@ -1,5 +1,5 @@
 -- Rows that were imported are the same in a next import.
-use Rattle.std.proofs.Common.{◌≡◌, ℕ, ◌<◌, ◌≢◌, ◌⊎◌, inl, inr, Bool, true, false, ◌&&◌, not, eqb, cond, List, [], ◌∷◌, Option, Some, None, Result, Ok, Err, refl, sym, ap, ◌∙◌, subst, arith}
+use Rattle.std.proofs.Common.{◌≡◌, ℕ, ◌<◌, ◌≢◌, ◌⊎◌, inl, inr, Bool, true, false, not, eqb, cond, List, [], ◌∷◌, Option, Some, None, Result, Ok, Err, refl, sym, ap, ◌∙◌, subst, arith}
 use Rattle.std.specs.Prelude.{find, is_some, nat_lt, if◌then◌else◌}
 use Rattle.std.specs.List.{AllByRecursion}
 use Rattle.std.specs.Cmp.Lexicographic.{bytes_decides}
@@ -107,9 +107,6 @@ same_modes modes.Percent = refl
 
 same_texts : (text : List ℕ) → same_text text text ≡ true
 same_texts text = (bytes_decides text text).1 refl
-
-both : (a b : Bool) → a ≡ true → b ≡ true → (a && b) ≡ true
-both a b e f = cc (e, f)
 
 made_as_given : (new : NewVoucher) (draw : Draw) (id : ℕ) → is_as_given new (voucher_row new draw id) ≡ true
 made_as_given new draw id = rw (same_number new.max_usages, same_ids new.valid_until, same_flags new.block_quota, same_flags new.allow_ignore_quota, same_modes new.price_mode, same_ids new.value, same_ids new.item, same_ids new.variation, same_ids new.quota, same_texts new.tag, same_texts new.comment) refl

@@ -1,5 +1,5 @@
 -- The head of an answer: its parts, and that they fit.
-use Rattle.std.proofs.Common.{◌≡◌, ℕ, ◌≤◌, ◌<◌, ◌^◌, Bool, true, false, ◌&&◌, ◌||◌, nat_lt, zero, suc, List, [], ◌∷◌, ◌++◌, length, Option, Some, None, Result, Ok, Err, refl, sym, ap, subst, ◌∙◌, ◌+◌, get_or, take, append-nil, arith, codes, decimal, unwrap_or, length-append}
+use Rattle.std.proofs.Common.{◌≡◌, ℕ, ◌≤◌, ◌<◌, ◌^◌, Bool, true, false, ◌&&◌, nat_lt, zero, suc, List, [], ◌∷◌, ◌++◌, length, Option, Some, None, Result, Ok, Err, refl, sym, ap, subst, ◌∙◌, ◌+◌, get_or, take, append-nil, arith, codes, decimal, unwrap_or, length-append}
 use Rattle.std.specs.List.{concat, flat_map}
 use Rattle.std.specs.Result.{IsOk, OnOk}
 use Rattle.std.proofs.lemmas.Bool.{ltb-true}
@@ -13,28 +13,6 @@ use Rattle.base_values.specs.declared.answer.Methods.{Methods}
 use Rattle.web_http.specs.Text.{when, phrase, status_line, has_content, content_fields, challenge, names_listed, name_if, method_names, allow_field, close_field, head_text}
 
 -- ---- the texts
-
--- the names, one after another, with a comma behind those before
-names : (get post patch delete : Bool) → concat (
-    when get (codes "GET") ∷ when (get && post) (codes ", ") ∷ when post (codes "POST") ∷ when ((get || post) && patch) (codes ", ") ∷ when patch (codes "PATCH")
-    ∷ when ((get || post || patch) && delete) (codes ", ") ∷ when delete (codes "DELETE") ∷ codes "\r\n" ∷ [])
-    ≡ names_listed (name_if get (codes "GET") ++ name_if post (codes "POST") ++ name_if patch (codes "PATCH") ++ name_if delete (codes "DELETE")) ++ codes "\r\n"
-names true true true true = refl
-names true true true false = refl
-names true true false true = refl
-names true true false false = refl
-names true false true true = refl
-names true false true false = refl
-names true false false true = refl
-names true false false false = refl
-names false true true true = refl
-names false true true false = refl
-names false true false true = refl
-names false true false false = refl
-names false false true true = refl
-names false false true false = refl
-names false false false true = refl
-names false false false false = refl
 
 -- ---- how long they are
 

@@ -1,5 +1,5 @@
 -- What a turn's steps do to a conversation.
-use Rattle.std.proofs.Common.{◌≡◌, inl, inr, ℕ, true, false, List, [], ◌++◌, ◌<◌, ◌≤◌, length, drop, map, Option, Some, Ok, refl, sym, ap, ◌∙◌, subst, subst₂, append_assoc, append-nil, arith}
+use Rattle.std.proofs.Common.{◌≡◌, inl, inr, ℕ, true, false, List, [], ◌++◌, ◌<◌, ◌≤◌, length, drop, map, Option, Some, refl, sym, ap, ◌∙◌, subst, subst₂, append_assoc, append-nil, arith}
 use Rattle.std.proofs.lemmas.List.{drop_all, drop_more}
 use Rattle.base_values.specs.declared.answer.Answer.{Answer}
 use Rattle.base_devices.specs.declared.device.Tick.{Tick}
@@ -8,10 +8,9 @@ use Rattle.base_devices.proofs.ToldLemmas.{Adds-nil, Adds-append, Gives-nil, Giv
 use Rattle.web_http.specs.Messages.{HasNone, Message, Messages, whole}
 use Rattle.web_http.proofs.FirstLemmas.{no_head}
 use Rattle.web_connection.specs.declared.failure.Failure.TheVariants as failures
-use Rattle.web_connection.specs.Run.{AreAll, Cursor, cursor, Finished, Progress, Steps}
-use Rattle.web_connection.specs.declared.failure.Step.{Step}
+use Rattle.web_connection.specs.Run.{AreAll, Cursor, cursor, Finished, Progress}
 use Rattle.web_connection.specs.declared.failure.Step.TheVariants as steps
-use Rattle.web_connection.proofs.RunLemmas.{Chain-messages, Runs-append, broken_more, finished_all, finished_none, memory_broken, progress_feed, progress_more, progress_none}
+use Rattle.web_connection.proofs.RunLemmas.{Chain-messages, Runs-append, broken_more, finished_none, memory_broken, progress_feed, progress_more, progress_none}
 use Rattle.web_turns.specs.declared.stage.Stage.{Stage}
 use Rattle.web_turns.specs.declared.stage.Stage.TheVariants as stages
 use Rattle.web_turns.specs.Acts.{Act, Between, Records, ticks}
@@ -21,11 +20,6 @@ use Rattle.web_turns.specs.Halls.{has_some}
 use Rattle.web_turns.proofs.RecordLemmas.{Acts-append, ticks-append, went_recorded}
 
 -- ---- a run goes on
-
-abbrev pub stage_of : Step → Stage
-stage_of steps.Waits = stages.Waits
-stage_of steps.Goes = stages.Goes
-stage_of steps.Ends = stages.Ends
 
 module _ {D : Type 0} (Serves : D → Tick → Message → Answer → D → Type 0) where
   finished_on : (after : Option (List ℕ)) (p q r : Cursor D) → Progress Serves p q → Finished Serves (AreAll q.left after) q r → Finished Serves (AreAll p.left after) p r
@@ -52,12 +46,6 @@ module _ {D : Type 0} (Serves : D → Tick → Message → Answer → D → Type
   went_on after stages.Goes p q r x y = progress_more Serves p q r x y
   went_on after stages.Ends p q r x y = finished_on after p q r x y
   went_on after stages.Lost p q r x (e, y) = (e, broken_more Serves e p q r x y)
-
-  -- one step, as a run
-  pub stepped : (after : Option (List ℕ)) (p q : Cursor D) (step : Step) → Steps Serves p q (Ok step) → Went Serves after (stage_of step) p q
-  stepped after p q steps.Waits (none, same) = (progress_none Serves p q same, subst (λ (c : Cursor D). HasNone c.left) (sym same) none)
-  stepped after p q steps.Goes (x, less) = x
-  stepped after p q steps.Ends x = finished_all Serves after p q x
 
 -- ---- a conversation goes on
 
@@ -97,10 +85,6 @@ takes_sent a b c d same takes sends was none is =
     subst (λ (l : List ℕ). length l < length a.left) (sym sends.left)
     (subst (λ (s : Seat). length c.left < length s.left) e
     (takes (subst (λ (s : Seat). s.stage ≡ stages.Goes) (sym e) was) (subst (λ (s : Seat). s.unsent ≡ []) (sym e) none) (sym sends.stage ∙ is)))
-
--- without an act
-pub moves_none : (old new : Seat) → new ≡ old → Moves old new
-moves_none old new same first own talk = subst (λ (s : Seat). Talks first own s) (sym same) talk
 
 pub sends_moves : (old new : Seat) → Sends old new → Moves old new
 sends_moves old new sends first own talk = record {

@@ -1,4 +1,3 @@
-use Rattle.std.proofs.Common.{refl}
 use Rattle.tests_callers.proofs.ComeLemmas.{some_came}
 use Rattle.tests_callers.proofs.turns.come_in.Goals as goal
 
