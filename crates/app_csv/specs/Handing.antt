@@ -16,7 +16,7 @@ IsReady lines = IsAtLine lines.text
 abbrev pub gathered_text : Lines → List ℕ
 gathered_text lines = written_text (λ v. v.items) lines.text
 
--- the same, but for the last bytes, which the CSV writer holds back
+-- the text of the lines but for the last bytes, which the CSV writer holds back
 abbrev pub settled_text : Lines → List ℕ
 settled_text lines = (writer_under lines.text).items
 

@@ -16,6 +16,6 @@ Coming S A = Connected → Connection S → Result A RunFault → Type 0
 abbrev pub CameTo : {S A : Type 0} → Ghosts S → Coming S A → Connection S → Filed S A → Type 0
 CameTo g Comes connection filed = Comes (state g connection) filed.connection filed.outcome
 
--- it came to this, or the database wasn't opened
+-- the command came to this, or the database wasn't opened
 abbrev pub OrUnopened : {S A : Type 0} → Ghosts S → Coming S A → Connected → Connection S → Result A RunFault → Type 0
 OrUnopened g Comes old left outcome = Comes old left outcome ⊎ StaysUnopened g old left outcome

@@ -34,17 +34,18 @@ abbrev pub IsTaken : (List ℕ → Bool → Type 0) → (List ℕ → RunFault �
 IsTaken stood refuses file fault =
     (stood file true × (fault ≡ faults.NotAShop)) ⊎ (stood file false × ((fault ≡ faults.Memory) ⊎ IsRefused refuses file fault))
 
--- It came to this over a connection to the file of this name, which it left so; or there is no such connection, and the fault says why.
+-- What a command came to over a connection to the file of this name, which it left so; or there is no such connection, and the fault says
+-- why.
 abbrev pub IsShelved : {S A : Type 0} → (List ℕ → Connection S → Type 0) → (List ℕ → RunFault → Type 0)
     → (Connection S → Connection S → Result A RunFault → Type 0) → List ℕ → Result A RunFault → Type 0
 IsShelved {S = S} gives lacks came file outcome =
     ((connection : Connection S) × (left : Connection S) × gives file connection × came connection left outcome)
     ⊎ ((fault : RunFault) × (outcome ≡ Err fault) × lacks file fault)
 
--- it came to this over the file of this name, which stood there; or there is no connection to it, and the fault says why
+-- what a command came to over the file of this name, which stood there; or there is no connection to that file, and the fault says why
 abbrev pub OverFile : {S A : Type 0} → Ghosts S → (List ℕ → Bool → Type 0) → (List ℕ → Connection S → Type 0) → (List ℕ → RunFault → Type 0) → Coming S A → List ℕ → Result A RunFault → Type 0
 OverFile g stood gives refuses Comes file outcome = IsShelved (IsGiven stood gives true) (IsMissing stood refuses) (λ connection left came. Comes (state g connection) left came) file outcome
 
--- it came to this over a new file of this name; or there is no connection to one, and the fault says why
+-- what a command came to over a new file of this name; or there is no connection to one, and the fault says why
 abbrev pub OverNewFile : {S A : Type 0} → Ghosts S → (List ℕ → Bool → Type 0) → (List ℕ → Connection S → Type 0) → (List ℕ → RunFault → Type 0) → Coming S A → List ℕ → Result A RunFault → Type 0
 OverNewFile g stood gives refuses Comes file outcome = IsShelved (IsGiven stood gives false) (IsTaken stood refuses) (λ connection left came. Comes (state g connection) left came) file outcome

@@ -15,8 +15,8 @@ use Rattle.web_cli.specs.Faults.{as_fault}
 abbrev pub OnPorts : {R W E : Type 0} → source.Ghosts R → drain.Ghosts W → (Ports → Ports → E → Type 0) → R → W → R → W → E → Type 0
 OnPorts r w Comes reader writer reader_after writer_after result = Comes (ports_at r w reader writer) (ports_at r w reader_after writer_after) result
 
--- the same from a fresh shop whose tables are in SQLite's memory; or there was no memory for that shop, and then nothing is read
--- and nothing written
+-- what a run of `feed` does from a fresh shop whose tables are in SQLite's memory; or there was no memory for that shop, and then nothing
+-- is read and nothing written
 abbrev pub Feeds : ℕ → ℕ → Ports → Ports → Result (Unit {0}) Failure → Type 0
 Feeds from step old new result =
     ((first : MemoryDesk) × IsFresh in_memory first × FeedsDesk in_memory first from step old new result)

@@ -16,7 +16,7 @@ use Rattle.app_run.specs.Stored.{MemoryDesk, in_memory}
 abbrev pub fresh_shop : ShopView
 fresh_shop = record { state = empty; kept = [] }
 
--- the same, from which a list of arrivals begins
+-- the opening from which a list of arrivals begins: no rows and no answers
 abbrev pub fresh_opening : Opening
 fresh_opening = record { state = empty; kept = [] }
 

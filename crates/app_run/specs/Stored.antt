@@ -16,22 +16,22 @@ use Rattle.app_run.specs.Opened.{bare_house, feed_house}
 abbrev pub IsOnCleanDisk : {S : Type 0} → Ghosts S → SqlTables S → Type 0
 IsOnCleanDisk g t = HasCleanDisk (state g t.connection)
 
--- these tables hold no row and no answer
+-- the tables hold no row and no answer
 abbrev pub HoldsNoRow : {S : Type 0} → Ghosts S → SqlTables S → Type 0
 HoldsNoRow g t = HoldsWhileOpen t.head t.next_row (state g t.connection) empty []
 
--- these tables know this house
+-- the tables know this house
 abbrev pub KnowsHouse : {S : Type 0} → Ghosts S → SqlTables S → House → Type 0
 KnowsHouse g t house = IsOfHouse t.head t.next_row (state g t.connection) house
 
--- these tables are of the organizer `house` and the event `hall`, hold no row and no answer, and know that house without a token
+-- the tables are of the organizer `house` and the event `hall`, hold no row and no answer, and know that house without a token
 pub record AreBare {S : Type 0} (g : Ghosts S) (t : SqlTables S) : Type 0 where
   pub row : (t.head.organizer ≡ codes "house") × (t.head.event ≡ codes "hall")
   pub next : t.head.next_token ≡ 1
   pub holds : HoldsNoRow g t
   pub knows : KnowsHouse g t bare_house
 
--- these tables are the same, and know that house with the token `feed`
+-- the tables are of the organizer `house` and the event `hall`, hold no row and no answer, and know that house with the token `feed`
 pub record AreFed {S : Type 0} (g : Ghosts S) (t : SqlTables S) : Type 0 where
   pub row : (t.head.organizer ≡ codes "house") × (t.head.event ≡ codes "hall")
   pub holds : HoldsNoRow g t

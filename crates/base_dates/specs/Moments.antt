@@ -7,7 +7,7 @@ use Rattle.base_values.specs.Moments.{last_moment}
 use Rattle.base_values.specs.declared.refusal.ValueRefusal.{ValueRefusal}
 use Rattle.base_values.specs.declared.refusal.ValueRefusal.TheVariants.{NotMoment, OutOfRange}
 
--- so many seconds after 1970 began, as a moment; out of range before that, and after the last moment
+-- a number of seconds after 1970 began, as a moment; out of range before that, and after the last moment
 abbrev pub in_range : ℤ → Result ℕ ValueRefusal
 in_range (pos s) = if nat_le s last_moment then Ok s else Err OutOfRange
 in_range (negsuc s) = Err OutOfRange

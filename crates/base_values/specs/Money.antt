@@ -13,7 +13,7 @@ last_cents = 9999999999
 abbrev pub IsMoney : ℕ → Type 0
 IsMoney cents = cents ≤ last_cents
 
--- one digit behind the point is tens of cents, two are cents
+-- cents by how many digits are behind the point: a single digit is tens of cents, two are cents
 abbrev pub decimals_by : ℕ → ℕ → Option ℕ
 decimals_by places n = if places == 1 then Some (n * 10) else (if places == 2 then Some n else None)
 

@@ -5,7 +5,7 @@ use Rattle.std.specs.Prelude.{ℕ, ◌+◌, ◌-◌, ◌*◌, ◌/◌, nat_le, O
 abbrev pub whole : ℕ
 whole = 10000
 
--- so many hundredths of a percent, which are no more than the whole
+-- hundredths of a percent, which are no more than the whole
 abbrev pub percent_of : ℕ → Option ℕ
 percent_of hundredths = if nat_le hundredths whole then Some hundredths else None
 

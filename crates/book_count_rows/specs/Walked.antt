@@ -42,7 +42,7 @@ less a b = record { paid = a.paid - b.paid; pending = a.pending - b.pending; blo
 abbrev pub usage_shifted : Usage → Option QuotaShift → Usage
 usage_shifted usage shift = less (plus usage (come_by shift)) (gone_by shift)
 
--- it is a usage that was known
+-- a usage is the one that was known
 abbrev pub same_as : Usage → Option Usage → Bool
 same_as usage None = false
 same_as usage (Some known) = same_usage usage known
@@ -55,11 +55,11 @@ used_now state quota = usage_of state.lists state.moment quota
 abbrev pub count_by_shift : State → ℕ → List QuotaShift → Quota → QuotaCount
 count_by_shift state at shifts quota = record { quota = quota.id; usage = usage_shifted (usage_of state.lists at quota) (quota_shift_at quota.id shifts) }
 
--- it is told, unless it was the same before
+-- the count of a quota by the shifts, unless it was the same before
 abbrev pub told_by_shift : State → ℕ → List QuotaShift → Quota → List QuotaCount
 told_by_shift state at shifts quota = told_unless (has_count state (count_by_shift state at shifts quota)) (count_by_shift state at shifts quota)
 
--- the same of the quota of an id after changes, if there is one
+-- the count by the shifts of the quota of an id after changes, if there is one, unless it was the same before
 abbrev pub told_at : State → List Change → ℕ → List QuotaShift → ℕ → List QuotaCount
 told_at state changes at shifts id = told_if (told_by_shift state at shifts) (quota_at id (after_all changes state.lists).catalogue)
 

@@ -19,7 +19,7 @@ abbrev pub Stands : Lists → Option Voucher → Type 0
 Stands lists None = Unit {0}
 Stands lists (Some v) = voucher_at v.id lists ≡ Some v
 
--- it blocks places of the quota while it is live
+-- the voucher blocks places of the quota while it is live
 abbrev pub may_block : Quota → Voucher → Bool
 may_block quota voucher = voucher.block_quota && hits quota voucher
 
@@ -35,6 +35,6 @@ free_if lists at quota voucher = sum_at (λ v. if may_block quota v then held_in
 unfoldable pub naming_if : Lists → Option Voucher → ℕ
 naming_if lists voucher = sum_at (λ v. named_in v.id lists) voucher
 
--- so many steps, one for each voucher that has ended since, and one for each cart position that names one of these
+-- the steps so far, with a step for each voucher that has ended since, and a step for each cart position that names one of these
 abbrev pub with_release_steps : State → ℕ → ℕ → ℕ
 with_release_steps state at steps = steps + count_by (is_due_voucher state.moment at) state.lists.vouchers + sum_by (λ v. if is_due_voucher state.moment at v then naming_if state.lists (Some v) else 0) state.lists.vouchers

@@ -8,16 +8,16 @@ use Rattle.model_rows.specs.Lists.{Lists}
 use Rattle.book_usage.specs.Shares.{status_share, exited_share}
 use Rattle.book_deltas.specs.Shifts.{count_moved}
 
--- one more, or one less
+-- a count with one more, or one less
 abbrev pub count_after_turn : Bool → ℕ → ℕ
 count_after_turn true n = min (n + 1) 18446744073709551615
 count_after_turn false n = n - 1
 
--- one more or one less for the voucher of this name
+-- counts with one more or one less for the voucher of this name
 abbrev pub turn : Bool → Option ℕ → (ℕ → ℕ) → ℕ → ℕ
 turn up name spent x = if names x name then count_after_turn up (spent x) else spent x
 
--- one more or one less for the voucher of each of these names
+-- counts with one more or one less for the voucher of each of these names
 abbrev pub turn_each : Bool → List (Option ℕ) → (ℕ → ℕ) → ℕ → ℕ
 turn_each up [] spent = spent
 turn_each up (name ∷ names) spent = turn_each up names (turn up name spent)

@@ -24,7 +24,7 @@ keys_if keys (Some row) = keys row
 abbrev pub has_end : {T : Type 0} → (T → Keys) → ℕ → ℕ → T → Bool
 has_end keys from to row = ends_between from to (keys row).until
 
--- it names the row of this id
+-- by its keys a row names the row of this id
 abbrev pub has_name : {T : Type 0} → (T → Keys) → ℕ → T → Bool
 has_name keys id row = names id (keys row).named
 
@@ -32,7 +32,7 @@ has_name keys id row = names id (keys row).named
 abbrev pub has_text : {T : Type 0} → (T → Keys) → ℕ → T → Bool
 has_text keys digest row = names digest (keys row).text
 
--- it belongs to this
+-- by its keys a row belongs to this group
 abbrev pub has_group : {T : Type 0} → (T → Keys) → ℕ → T → Bool
 has_group keys group row = names group (keys row).group
 

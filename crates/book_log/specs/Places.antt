@@ -65,7 +65,7 @@ is_of table change = table_of change == table
 abbrev pub touches_table : ℕ → List Change → Bool
 touches_table table changes = list_any (is_of table) changes
 
--- one place further on than the later one, or the first where there is none and it passes
+-- the place behind the later one, or the first place where there is none and it passes
 abbrev pub further : Bool → Option ℕ → Option ℕ
 further here (Some place) = Some (suc place)
 further here None = if here then Some 0 else None

@@ -49,7 +49,7 @@ spent_if state (Some voucher) = spent voucher.id state.lists
 abbrev pub spent_at : State → ℕ → ℕ
 spent_at state id = spent_if state (voucher_at id state.lists)
 
--- the same with one value put
+-- values by id, with a value put at this id
 abbrev pub put_at : {U : Type 0} → ℕ → U → (ℕ → U) → ℕ → U
 put_at id value f x = if id == x then value else f x
 
@@ -77,7 +77,7 @@ pub record AreSmall (lists : Lists) : Type 0 where
   pub uses : AllByRecursion (λ v. v.max_usages ≤ last_use) lists.vouchers
   pub discounts : ArePriced lists
 
--- one value of each kind is kept beside each quota, and beside each voucher
+-- beside each quota, and beside each voucher, a value of each kind is kept
 pub record IsOfRows (lists : Lists) (counted : Counted) : Type 0 where
   pub usages : length counted.usages.items ≡ length lists.catalogue.quotas
   pub redeems : length counted.redeems.items ≡ length lists.vouchers
@@ -95,7 +95,7 @@ pub record AllCounted (state : State) (counted : Counted) : Type 0 where
   pub held : AreHeldNow state counted.holds.items
   pub small : AreSmall state.lists
 
--- so many rows fit among those of the box office, and so many values beside them, without taking memory
+-- as many rows fit among those of the box office, and as many values beside them, without taking memory
 pub record AllFit (count room : ℕ) (counted : Counted) : Type 0 where
   pub rows : count ≤ room
   pub usages : count ≤ room_left counted.usages

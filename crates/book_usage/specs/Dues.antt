@@ -21,7 +21,8 @@ carts_ended_by at state = due_carts state.moment at state.lists
 abbrev pub vouchers_ended_by : ℕ → State → List ℕ
 vouchers_ended_by at state = due_vouchers state.moment at state.lists
 
--- so many steps, one for each of these cart positions and vouchers, and one for each cart position that names one of these vouchers
+-- the steps so far, with a step for each of these cart positions and vouchers, and a step for each cart position that names one of these
+-- vouchers
 abbrev pub with_due_steps : State → ℕ → ℕ → ℕ
 with_due_steps state at steps = steps + came_due state.moment at state.lists + naming_due state.moment at state.lists
 

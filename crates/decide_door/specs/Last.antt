@@ -9,7 +9,7 @@ use Rattle.model_rows.specs.Passages.{is_entry, passage, is_later, last_after}
 abbrev pub is_of : ℕ → ℕ → Checkin → Bool
 is_of list position checkin = checkin.list == list && checkin.position == position
 
--- those of a position by a list, by id
+-- the check-ins of a position by a list, by id
 abbrev pub checkins_of : ℕ → ℕ → List Checkin → List Checkin
 checkins_of list position checkins = filter (is_of list position) checkins
 

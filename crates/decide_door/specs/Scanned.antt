@@ -21,7 +21,7 @@ use Rattle.decide_door.specs.Verdict.{shown_by, verdict}
 abbrev pub checkin_row : ℕ → OrderPos → Scan → State → Checkin
 checkin_row list position scan state = record { id = state.next.checkin; list = list; position = position.id; kind = scan.kind; datetime = unwrap_or scan.datetime state.moment; nonce = scan.nonce }
 
--- it is stored where the table takes it
+-- a check-in is stored where the table takes it
 abbrev pub checkin_stored : Checkin → OrderPos → State → Result (State × OrderPos) DoorRefusal
 checkin_stored row position state = do
   check (takes_checkin state) (Catalogue Full)
@@ -42,7 +42,7 @@ ticket_scanned list ticket scan state = do
   admission ← verdict_of list ticket scan state
   let_through list scan state admission
 
--- one who is let through anew gets a check-in; one who was let through before gets none, nor one who is refused
+-- the check-in that a scan puts: whoever is let through anew gets one; whoever was let through before gets none, nor whoever is refused
 abbrev pub puts_by : ℕ → Scan → State → Result Admission DoorRefusal → List Change
 puts_by list scan state (Err refusal) = []
 puts_by list scan state (Ok (Again position)) = []

@@ -21,11 +21,11 @@ door pending again = record { id = 1; name = []; all_products = true; limit_prod
 abbrev pub plain : CheckinList
 plain = door false false
 
--- the same list, but for one thing: it includes pending orders
+-- the plain list, but for one thing: it includes pending orders
 abbrev pub pending_list : CheckinList
 pending_list = door true false
 
--- the same list, but for one thing: it allows an entry after an exit
+-- the plain list, but for one thing: it allows an entry after an exit
 abbrev pub return_list : CheckinList
 return_list = door false true
 
@@ -37,7 +37,7 @@ seat = record { id = 1; order = 1; positionid = 1; product = record { item = 1; 
 abbrev pub by_id : Ticket
 by_id = Position 1
 
--- it is shown by its secret
+-- the ticket is shown by its secret
 abbrev pub by_secret : Ticket
 by_secret = Secret (97 ∷ [])
 
@@ -81,7 +81,7 @@ first_in = ticket_passed 1 1 Entry (nonce 1) 1000
 abbrev pub then_out : Checkin
 then_out = ticket_passed 2 1 Exit (nonce 3) 1000
 
--- it comes in by list 2
+-- the ticket comes in by list 2
 abbrev pub elsewhere_in : Checkin
 elsewhere_in = ticket_passed 1 2 Entry (nonce 1) 1000
 
@@ -97,6 +97,6 @@ out_at moment = ticket_passed 2 1 Exit None moment
 abbrev pub Admits : CheckinList → Status → List Checkin → Ticket → Scan → List Checkin → Type 0
 Admits list status checkins ticket scan stored = ticket_scanned 1 ticket scan (house status list checkins) ≡ Ok (house status list stored, seat)
 
--- it refuses the ticket
+-- the list refuses the ticket
 abbrev pub Refuses : CheckinList → Status → List Checkin → Ticket → Scan → DoorRefusal → Type 0
 Refuses list status checkins ticket scan refusal = ticket_scanned 1 ticket scan (house status list checkins) ≡ Err refusal

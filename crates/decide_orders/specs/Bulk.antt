@@ -28,7 +28,7 @@ entry_added (entries.Faulty fault) draw state = (state, outcomes.Faulty fault)
 abbrev pub with_outcome : Outcome → State × List Outcome → State × List Outcome
 with_outcome outcome rest = (rest.0, outcome ∷ rest.1)
 
--- one entry after another, whatever becomes of each
+-- entries are added in order, whatever becomes of each
 abbrev pub all_added : List Entry → Draw → State → State × List Outcome
 all_added [] draw state = (state, [])
 all_added (entry ∷ more) draw state = with_outcome (entry_added entry draw state).1 (all_added more draw (entry_added entry draw state).0)

@@ -42,7 +42,7 @@ order_row new state = record {
   expires = unwrap_or new.expires (min (state.moment + payment_term) last_moment);
 }
 
--- one position's row: its id, its number in the order, and what its voucher took off
+-- the row of a position: its id, its number in the order, and what its voucher took off
 abbrev pub position_row : Draw → ℕ → ℕ → ℕ → Sold → OrderPos
 position_row draw order id number sold = record {
   id = id;
@@ -85,7 +85,7 @@ position_put row state = do
   check (has_use state.moment state.lists row.voucher) (OfVoucher NoHeadroom)
   Ok (change_applied (PutPosition row) state)
 
--- one position after another
+-- positions are put in order
 abbrev pub with_positions : List OrderPos → Result State OrderRefusal → Result State OrderRefusal
 with_positions rows (Err refusal) = Err refusal
 with_positions [] (Ok state) = Ok state

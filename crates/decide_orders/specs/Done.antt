@@ -40,7 +40,7 @@ pub record OrderMoved : Type 0 where
   pub rows : OrderRows
   pub done : order_moved number change before ≡ Ok (after, rows)
 
--- it came back to life by that: before it the order stood as this, and wasn't in force, and afterwards it is
+-- the order came back to life by the move: before it the order stood as this, and wasn't in force, and afterwards it is
 pub record IsRevival (old : Order) (moved : OrderMoved) : Type 0 where
   pub stood : order_at moved.number moved.before.lists ≡ Some old
   pub ended : is_in_force old.status ≡ false

@@ -85,7 +85,7 @@ revival row state = do
   refuse_some (λ quota. OfVoucher (SoldOut quota)) (over_again row state)
   Ok (moved_to row state)
 
--- one transition: where the order comes back to life it is tested first
+-- a single transition: where the order comes back to life it is tested first
 abbrev pub moved_as : Order → Move → State → Transition → Result (State × OrderRows) OrderRefusal
 moved_as order change state turn =
     let row = moved_row order turn.status change in

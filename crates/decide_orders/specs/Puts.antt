@@ -31,20 +31,21 @@ pub record ComesBack (row : Order) (state : State) : Type 0 where
   pub ended : stands_as is_in_force (order_at row.id state.lists) ≡ false
   pub back : is_in_force row.status ≡ true
 
--- it does this to the box office and logs these changes; without memory it may do some of it
+-- a step of a draft does this to the box office and logs these changes; without memory it may do some of it
 pub record ChangesBy {E : Type 0} (rule : State → State) (made : List Change) (old new : DraftState) (result : Result (Unit {0}) E) : Type 0 where
   pub done : OnOk result (now new ≡ rule (now old))
   pub changes : OnOk result (Logs made old new)
   pub extends : Extends old new
 
--- the same by a rule that may refuse; a refusal may leave some of it done
+-- a step of a draft goes by a rule that may refuse, and logs these changes; a refusal may leave some of it done
 pub record PutsBy {E : Type 0} (memory : E) (rule : State → Result State E) (made : List Change) (old new : DraftState) (result : Result (Unit {0}) E) : Type 0 where
   pub done : OnOk result (rule (now old) ≡ Ok (now new))
   pub refused : RefusesBy memory (rule (now old)) result
   pub changes : OnOk result (Logs made old new)
   pub extends : Extends old new
 
--- it does this to all rows of the ids that are due, logs these changes, and answers how many are due; without memory it does nothing
+-- a step of a draft does this to all rows of the ids that are due, logs these changes, and answers how many are due; without memory it does
+-- nothing
 pub record DoesAll {E : Type 0} (rule : State → State) (due : State → List ℕ) (made : State → List Change) (old new : DraftState) (result : Result ℕ E) : Type 0 where
   pub done : OnOk result (now new ≡ rule (now old))
   pub count : IfOk result (λ n. n ≡ length (due (now old)))

@@ -9,7 +9,7 @@ use Rattle.model_rows.specs.Fits.{fits}
 use Rattle.model_commands.specs.declared.vouchers.VoucherRefusal.{VoucherRefusal}
 use Rattle.model_commands.specs.declared.vouchers.VoucherRefusal.TheVariants.{VoucherExpired, WrongProduct}
 
--- it is live at the moment, and for the product
+-- the voucher is live at the moment, and for the product
 abbrev pub usable : CatalogueLists → ℕ → Product → Voucher → Result (Unit {0}) VoucherRefusal
 usable lists at product voucher = do
   check (is_live_voucher at voucher) VoucherExpired

@@ -60,7 +60,7 @@ is_served state before entry =
     && (list_all (has_place state before entry.product) state.lists.catalogue.quotas
     && takes_rows (length before + 1) state.next.voucher state.lists.vouchers))
 
--- those of a queue who are sent, where these before them are (the last of them first)
+-- whoever of a queue is sent, where these before them are (the last of them first)
 abbrev pub served_after : State → List Waiting → List Waiting → List Waiting
 served_after state before [] = []
 served_after state before (e ∷ es) = if is_served state before e then e ∷ served_after state (e ∷ before) es else served_after state before es

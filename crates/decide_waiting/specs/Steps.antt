@@ -64,7 +64,7 @@ all_after_one product [] quotas = []
 all_after_one product (left ∷ lefts) [] = []
 all_after_one product (left ∷ lefts) (quota ∷ quotas) = after_one product quota left ∷ all_after_one product lefts quotas
 
--- one waits less, and one is blocked more, in the quotas of the product
+-- in the quotas of the product an entry less waits, and a place more is blocked
 pub record TradesPlace (quota : Quota) (product : Product) (before after : Usage) : Type 0 where
   pub paid : after.paid ≡ before.paid
   pub pending : after.pending ≡ before.pending

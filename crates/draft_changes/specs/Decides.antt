@@ -14,12 +14,12 @@ Logs changes old new = new.log.changes ≡ old.log.changes ++ changes
 abbrev pub RefusesBy : {A B E : Type 0} → E → Result A E → Result B E → Type 0
 RefusesBy memory rule result = IfErr result (λ e. e ≢ memory → rule ≡ Err e)
 
--- it answers what the rule gives, unless there was no memory
+-- an answer is what the rule gives, unless there was no memory
 pub record AnswersBy {A E : Type 0} (memory : E) (rule result : Result A E) : Type 0 where
   pub done : IfOk result (λ answer. rule ≡ Ok answer)
   pub refused : RefusesBy memory rule result
 
--- it is decided by this rule what is answered and what the draft becomes, unless there was no memory
+-- this rule decides what is answered and what the draft becomes, unless there was no memory
 pub record DecidesBy {A E : Type 0} (memory : E) (rule : State → Result (State × A) E) (made : A → List Change) (old new : DraftState) (result : Result A E) : Type 0 where
   -- where it is done the rule leads to the new draft's box office, and to this answer
   pub done : IfOk result (λ answer. rule (now old) ≡ Ok (now new, answer))
@@ -32,7 +32,7 @@ pub record DecidesBy {A E : Type 0} (memory : E) (rule : State → Result (State
   -- a refusal leaves the draft as it was
   pub same : OnErr result (new ≡ old)
 
--- the same of a rule that answers nothing, and what it changes where it is done
+-- this rule, which answers nothing, decides what the draft becomes, unless there was no memory; where it is done these changes are logged
 pub record DeletesBy {E : Type 0} (memory : E) (rule : State → Result State E) (made : List Change) (old new : DraftState) (result : Result (Unit {0}) E) : Type 0 where
   pub done : IfOk result (λ _. rule (now old) ≡ Ok (now new))
   pub refused : RefusesBy memory (rule (now old)) result

@@ -52,11 +52,11 @@ back mark draft = record draft { log = log_at mark.count draft.log; next = mark.
 abbrev pub IsCounted : ℕ → Log → List (Count Usage) → Type 0
 IsCounted at log counts = (place : ℕ) → plus (value_at nothing (usage_of (rows_of log) at) log.base.catalogue.quotas place) (went nothing place counts) ≡ plus (value_at nothing (usage_of log.base at) log.base.catalogue.quotas place) (came nothing place counts)
 
--- the same of all that is used of a quota: what raises it, and what lowers it
+-- by quota all that is used of it: with what raises it and without what lowers it, that of the book is the one now
 abbrev pub IsTotalled : ℕ → Log → List (Count Usage) → Type 0
 IsTotalled at log counts = (place : ℕ) → value_at 0 (places_used (rows_of log) at) log.base.catalogue.quotas place + usage_raised (went nothing place counts) (came nothing place counts) ≡ value_at 0 (places_used log.base at) log.base.catalogue.quotas place + usage_raised (came nothing place counts) (went nothing place counts)
 
--- the same of the uses of each voucher
+-- by voucher its uses: with what came and without what went, those of the book are the ones now
 abbrev pub AreKept : ℕ → Log → List (Count Uses) → Type 0
 AreKept at log uses = (voucher : ℕ) → plus_uses (uses_of at (rows_of log) voucher) (went no_uses voucher uses) ≡ plus_uses (uses_of at log.base voucher) (came no_uses voucher uses)
 
@@ -70,7 +70,7 @@ pub record IsTallied (at : ℕ) (log : Log) (tallied : Tallied) : Type 0 where
   pub kept : AreKept at log tallied.uses
   pub each : length tallied.reached ≡ length log.changes
 
--- one reaches no further than the other
+-- a reach is no further than the other
 pub record IsBelow (reach other : Reach) : Type 0 where
   pub counts : reach.counts ≤ other.counts
   pub uses : reach.uses ≤ other.uses

@@ -20,7 +20,7 @@ vouchers_by (PutVoucher row) = row.id ∷ []
 vouchers_by (DropVoucher id) = id ∷ []
 vouchers_by _ = []
 
--- those that these changes put or drop are among these
+-- the vouchers that these changes put or drop are among the noted ones
 abbrev pub AreNoted : List Change → List ℕ → Type 0
 AreNoted changes noted = (v : ℕ) → has v noted ≡ false → has v (flat_map vouchers_by changes) ≡ false
 

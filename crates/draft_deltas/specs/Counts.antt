@@ -18,7 +18,7 @@ pub record IsMore {T : Type 0} (come gone : T → Usage) (list : List T) (old ne
   pub goes : (place : ℕ) → went nothing place new ≡ plus (went nothing place old) (value_at nothing gone list place)
   pub on : GoesOn old new
 
--- the same of the uses of each voucher
+-- the new uses have what comes and what goes of each voucher, beside the old ones, from which they go on
 pub record AreMoreUses (come gone : ℕ → Uses) (old new : List (Count Uses)) : Type 0 where
   pub comes : (voucher : ℕ) → came no_uses voucher new ≡ plus_uses (came no_uses voucher old) (come voucher)
   pub goes : (voucher : ℕ) → went no_uses voucher new ≡ plus_uses (went no_uses voucher old) (gone voucher)

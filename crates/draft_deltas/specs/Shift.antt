@@ -27,7 +27,7 @@ use Rattle.book_usage.specs.Shares.{cart_share, waiting_share, exited_share}
 use Rattle.draft_overlay.specs.Purchases.{ArePurchasesOf}
 use Rattle.draft_deltas.specs.declared.shift.Spot.{Spot}
 
--- one, where it is so
+-- 1 where this is true, else 0
 abbrev pub once : Bool → ℕ
 once b = if b then 1 else 0
 
@@ -71,7 +71,7 @@ ordered_covered lists at quota id = count_ordered id (λ p. is_covered_by lists 
 abbrev pub left_of : ℕ → Option Voucher → ℕ
 left_of redeemed voucher = sum_at (λ v. v.max_usages - redeemed) voucher
 
--- so many places, of which cart positions take each or for which entries wait
+-- the usage of some places, of which cart positions take each or for which entries wait
 abbrev pub usage_of_places : Bool → ℕ → Usage
 usage_of_places waits count = if waits then record nothing { waiting = count } else record nothing { carts = count }
 
@@ -107,8 +107,8 @@ voucher_come lists at id voucher quota = voucher_side lists at quota id voucher 
 abbrev pub voucher_gone : Lists → ℕ → ℕ → Option Voucher → Quota → Usage
 voucher_gone lists at id voucher quota = voucher_side lists at quota id (voucher_at id lists) voucher
 
--- so many places of an order, by its status, and so many that are released, where it is paid; and those that vouchers block again,
--- where the other one was in force and it isn't
+-- the usage of some places of an order, by its status, and of some that are released, where it is paid; and of those that vouchers block
+-- again, where the other order was in force and this one isn't
 abbrev pub order_counts : Option Order → Option Order → ℕ → ℕ → ℕ → Usage
 order_counts order other here covered released = record nothing {
   paid = if_stands is_paid order here;

@@ -47,7 +47,7 @@ CountsChange change log at catalogue old new = IsMore (come_of (rows_of log) at 
 abbrev pub CountsUses : Change → Log → ℕ → List (Count Uses) → List (Count Uses) → Type 0
 CountsUses change log at old new = AreMoreUses (use_come (rows_of log) at change) (use_gone (rows_of log) at change) old new
 
--- one more change is counted
+-- a change more is counted
 pub record IsNext (at : ℕ) (change : Change) (lists : Lists) (quotas : List Quota) (old new : Tallied) : Type 0 where
   pub counts : IsMore (come_of lists at change) (gone_of lists at change) quotas old.counts new.counts
   pub uses : AreMoreUses (use_come lists at change) (use_gone lists at change) old.uses new.uses

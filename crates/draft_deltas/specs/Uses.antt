@@ -18,7 +18,7 @@ use Rattle.book_usage.specs.Shares.{held_name, used_name}
 abbrev pub uses_of : ℕ → Lists → ℕ → Uses
 uses_of at lists voucher = record { used = redeemed voucher lists; held = held at voucher lists; spent = spent voucher lists }
 
--- one use, where the name is the voucher's
+-- a single use, where the name is the voucher's
 abbrev pub one_use : ℕ → Option ℕ → ℕ
 one_use voucher name = if names voucher name then 1 else 0
 
@@ -38,7 +38,7 @@ used_by voucher name discount = record no_uses { used = one_use voucher name; sp
 abbrev pub used_since : Bool → Bool → ℕ → ℕ → Uses
 used_since force stood count cents = record no_uses { used = if force && not stood then count else 0; spent = if force && not stood then cents else 0 }
 
--- those of these purchases
+-- the uses of a voucher by these purchases
 abbrev pub purchase_uses : Bool → Bool → List Purchase → ℕ → Uses
 purchase_uses force stood purchases voucher = used_since force stood (count_by (λ p. names voucher p.voucher) purchases) (sum_by (λ p. one_discount voucher p.voucher p.discount) purchases)
 

@@ -41,7 +41,7 @@ IsPutBelow count code log id = HasCode code log id × IsBelow count (last_place 
 abbrev pub IsUnchanged : List ℕ → Log → ℕ → Type 0
 IsUnchanged code log id = HasCode code log id × (last_place (touches 3 id) log.changes ≡ None)
 
--- it is this place
+-- a place that was found is this one
 abbrev pub is_place : ℕ → Option ℕ → Bool
 is_place place None = false
 is_place place (Some other) = other == place

@@ -13,7 +13,7 @@ pub record AreBelow (next : ℕ) (numbers : List ℕ) : Type 0 where
   pub apart : AreApart numbers
   pub below : AllByRecursion (λ n. n < next) numbers
 
--- so are the numbers of rows that have no id of their own
+-- the numbers of rows that have no id of their own are unlike in each table, and below the next one
 pub record IsFree (next : ℕ) (t : Tables) : Type 0 where
   pub quota_items : AreBelow next (map (λ r. r.rowid) t.quota_items)
   pub quota_variations : AreBelow next (map (λ r. r.rowid) t.quota_variations)

@@ -7,15 +7,15 @@ pub record Link : Type 0 where
   pub owner : ℕ
   pub member : ℕ
 
--- one for each member of a row
+-- the links of a row, a link for each member
 abbrev pub links : {T : Type 0} → (T → ℕ) → (T → List ℕ) → T → List Link
 links key members row = map (λ id. record { owner = key row; member = id }) (members row)
 
--- one for each member of each row
+-- the links of all rows, a link for each member of each row
 abbrev pub all_links : {T : Type 0} → (T → ℕ) → (T → List ℕ) → List T → List Link
 all_links key members rows = flat_map (links key members) rows
 
--- those of all rows but one
+-- the links of all rows but one
 abbrev pub links_but : ℕ → List Link → List Link
 links_but owner rows = filter (λ l. not (l.owner == owner)) rows
 

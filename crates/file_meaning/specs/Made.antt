@@ -147,7 +147,7 @@ put_exit c t = with_exit (head_of_exit c) (without_exit c.quota t)
 abbrev pub put_uses : VoucherCount → Tables → Tables
 put_uses c t = with_spent (head_of_spent c) (without_spent c.voucher (set_redeemed c t))
 
--- one after another
+-- a step is made for each of these, in order
 abbrev pub each : {X : Type 0} → (X → Tables → Tables) → List X → Tables → Tables
 each step [] t = t
 each step (x ∷ xs) t = each step xs (step x t)

@@ -16,7 +16,7 @@ use Rattle.file_rows.specs.Tables.{Tables}
 use Rattle.model_answers.specs.declared.kept.Kept.{Kept}
 use Rattle.file_meaning.specs.Rows.{OfficeRows, rows_of, releases_of, budgets_of, discounts_of, head_of_redeemed, redeemed_in}
 
--- one statement for each table of rows
+-- a statement for each table of rows
 pub record EachOfRows (of_items of_variations of_quotas of_quota_items of_quota_variations of_quota_release of_vouchers of_voucher_budget of_carts of_orders of_positions of_position_discount of_waiting of_checkin_lists of_list_items of_checkins : Type 0) : Type 0 where
   pub items : of_items
   pub variations : of_variations
@@ -57,7 +57,7 @@ AreRowsOf lists rows =
     (IsPermutation rows.list_items (all_links (λ l. l.id) (λ l. l.limit_products) lists.checkin_lists))
     (IsPermutation rows.checkins lists.checkins)
 
--- the same rows, in whatever order
+-- two sets of rows have the same ones in each table, in whatever order
 abbrev pub AreSameRows : OfficeRows → OfficeRows → Type 0
 AreSameRows a b =
     EachOfRows

@@ -19,7 +19,7 @@ pub record IsTurned (change : Change) (next : ℕ) (t u : Tables) : Type 0 where
   pub kept : u.kept ≡ t.kept
   pub free : IsFree next u
 
--- one change after another; the row number that is free goes from the first one to the last one
+-- changes turn the tables in order; the row number that is free goes from the first change to the last
 abbrev pub AreTurned : List Change → ℕ → ℕ → Tables → Tables → Type 0
 AreTurned [] from to t u = (from ≡ to) × (t ≡ u)
 AreTurned (change ∷ changes) from to t u = (next : ℕ) × (mid : Tables) × IsTurned change next t mid × AreTurned changes next to mid u

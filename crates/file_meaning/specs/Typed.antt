@@ -81,7 +81,7 @@ IsTypedChange (PutCheckin w) = IsTypedCheckin w
 
 -- ---- the tables
 
--- one statement for each table of which types promise something
+-- a statement for each table of which types promise something
 pub record EachTyped (of_items of_variations of_quotas of_vouchers of_carts of_orders of_positions of_waiting of_checkin_lists of_checkins of_tokens of_kept : Type 0) : Type 0 where
   pub items : of_items
   pub variations : of_variations
@@ -117,7 +117,7 @@ AreTyped t =
 abbrev pub AreBelowNext : ShopRow → List Token → Type 0
 AreBelowNext shop tokens = AllByRecursion (λ w. w.id < shop.next_token) tokens
 
--- so it is of a shop's row, which is of this version, and of the rows of its tables
+-- a shop's row, which is of this version, and the rows of its tables are what their types promise
 pub record IsTypedShop (head : ShopRow) (tables : Tables) : Type 0 where
   pub first : head.version ≡ this_version
   pub organizer : IsSlug head.organizer

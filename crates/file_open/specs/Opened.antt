@@ -96,13 +96,13 @@ IsReason db Store = Unit {0}
 abbrev pub IsWithheld : Database → Connected → Connected → Type 0
 IsWithheld db old new = IsTrue old.in_transaction ⊎ (IsStopped old new ⊎ IsReadable db)
 
--- it is refused for want of memory or because the store fails, and never with 60, 61 or 62
+-- a file of this database is refused for want of memory or because the store fails, and never with 60, 61 or 62
 abbrev pub IsFaultless : Database → Type 0
 IsFaultless db = (error : OpenError) → IsReason db error → IsOfMachine error
 
 -- ---- what was opened
 
--- these are the names that the shop's row tells
+-- organizer and event are the names that the shop's row tells
 abbrev pub AreNamesOf : ShopRow → List ℕ → List ℕ → Type 0
 AreNamesOf head organizer event = (organizer ≡ head.organizer) × (event ≡ head.event)
 
@@ -126,7 +126,7 @@ pub record IsOpened (db : Trees) (head : ShopRow) (next : ℕ) (office : State) 
 pub record OpensFile {S B : Type 0} (g : Ghosts S) (given : Held S) (result : Result (SqlTables S × OfficeView B) (HandedBack S OpenError)) : Type 0 where
   -- the office is the one that the tables of the file hold
   pub opened : IfOk result (λ it. OfThisVersion g given it.0.connection (λ db. IsOpened db.trees it.0.head it.0.next_row it.1.state (state g it.0.connection)))
-  -- it has the names of the shop's row, which is of this version
+  -- the office has the names of the shop's row, which is of this version
   pub names : IfOk result (λ it. AreNamesOf it.0.head it.1.organizer it.1.event)
   pub version : IfOk result (λ it. it.0.head.version ≡ this_version)
   pub sound : IfOk result (λ it. IsSound it.1.state)

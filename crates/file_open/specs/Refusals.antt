@@ -49,7 +49,7 @@ IsReasonAs own db Store = Unit {0}
 abbrev pub IsDeclaredByVersion : Database → Type 0
 IsDeclaredByVersion db = (version : ℕ) → IsCause db (Version (pos version)) → db.schema ≡ schema_of_version version
 
--- it is the refusal of a file of an earlier version of ours
+-- the error is the refusal of a file of an earlier version of ours
 abbrev pub TellsEarlier : OpenError → Type 0
 TellsEarlier error = (version : ℕ) × (1 ≤ version) × (version < this_version) × (error ≡ Version (pos version))
 

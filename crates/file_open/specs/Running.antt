@@ -42,7 +42,7 @@ RunsOn g words r t office = (x : ShopView) × MayLeave words r x × Runs g words
 abbrev pub Finds : {S : Type 0} → Ghosts S → Held S → Held S → Type 0
 Finds g old fresh = IsFound (state g old) (state g fresh)
 
--- it shows what that one shows
+-- the new connection shows what the old one shows
 abbrev pub ShowsSame : {S : Type 0} → Ghosts S → Held S → Held S → Type 0
 ShowsSame g old fresh = (state g fresh).now ≡ (state g old).now
 

@@ -31,7 +31,7 @@ lacking_spents (suc zero) vouchers = map none_spent vouchers
 lacking_spents (suc (suc zero)) vouchers = map none_spent vouchers
 lacking_spents (suc (suc (suc version))) vouchers = []
 
--- these are just the rows that the tables of a version haven't
+-- the rows are just those that the tables of a version haven't
 pub record AreLacking (version : ℕ) (t : Tables) (out : List ExitRow) (spent : List SpentRow) : Type 0 where
   pub exits : out ≡ lacking_exits version t.counts
   pub spents : spent ≡ lacking_spents version t.vouchers
@@ -44,6 +44,6 @@ tables_supplied version t = with_spents (lacking_spents version t.vouchers) (wit
 abbrev pub Brings : ℕ → ShopRow → Tables → Database → Database → Type 0
 Brings version head t = IsUpgraded (of_this_version head) (lacking_exits version t.counts) (lacking_spents version t.vouchers) version
 
--- those of this program's version that become of them: the shop's row tells the version, and all other rows are as they were
+-- the tables of this program's version that become of a version's: the shop's row tells the version, and all other rows are as they were
 abbrev pub brought : ℕ → ShopRow → Tables → Tables
 brought version head t = with_head (of_this_version head) (tables_supplied version t)

@@ -37,8 +37,8 @@ pub record HoldsShopAt (version : ℕ) (head : ShopRow) (t : Tables) (s : State)
   pub typed : IsTypedShop (of_this_version head) (tables_supplied version t)
   pub sound : IsSound s
 
--- These are just the rows that these tables of that version lack. Where an open connection showed what is declared as that version is, it holds
--- them as the shop of this row and this office.
+-- Exits and sums are just the rows that the tables of that version lack. Where an open connection showed what is declared as that version
+-- is, it holds them as the shop of this row and this office.
 pub record HoldsLacking {S : Type 0} (own : ℕ) (g : Ghosts S) (old new : Held S) (head : ShopRow) (out : List ExitRow) (spent : List SpentRow) (t : Tables) (s : State) : Type 0 where
   pub lacking : AreLacking own t out spent
   pub held : OfOpen g old new (λ db. db.schema ≡ schema_of_version own → HoldsShopAt own head t s (answers_in t) (state g new))

@@ -11,11 +11,11 @@ use Rattle.file_schema.specs.Tables.{schema}
 use Rattle.file_schema.specs.Parts.{row_shown}
 use Rattle.file_rows.specs.Unread.{IsOfNoFit}
 
--- one of the rows is that of no value within its limits
+-- a row is that of no value within its limits
 abbrev pub IsDamaged : {T : Type 0} → (T → Row) → (T → Type 0) → List Row → Type 0
 IsDamaged {T} as_row fits rows = (r : Row) × Contains rows r × IsOfNoFit fits as_row r
 
--- one of the rows that a shop's table of this tree shows is that of no value within its limits
+-- a row that a shop's table of this tree shows is that of no value within its limits
 abbrev pub ShowsDamage : {T : Type 0} → (T → Row) → (T → Type 0) → ℕ → Trees → Type 0
 ShowsDamage as_row fits tree db = IsDamaged as_row fits (map (row_shown schema tree) (db tree))
 
@@ -30,7 +30,7 @@ IsFor foreign damage Store = Unit {0}
 abbrev pub HasMeaning : Schema → List ℕ → Type 0
 HasMeaning schema sql = (c : Compiled) × (understood schema sql ≡ Ok c)
 
--- it is none
+-- the text is no statement over the schema
 abbrev pub HasNoMeaning : Schema → List ℕ → Type 0
 HasNoMeaning schema sql = (c : Compiled) → understood schema sql ≢ Ok c
 

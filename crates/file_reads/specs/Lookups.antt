@@ -40,9 +40,9 @@ FindsAll g old new rows test result = WhileOfShop g old new (λ a b. IfOk result
 abbrev pub TellsDamage : {S A T : Type 0} → Ghosts S → Transaction S → Transaction S → (A → Row) → (A → Type 0) → ℕ → Result T RowError → Type 0
 TellsDamage g old new as_row fits tree result = WhileOfShop g old new (λ a b. IfErr result (IsFor ⊥ (ShowsDamage as_row fits tree a.now.trees)))
 
--- it finds the rows that pass the test in one table, or tells of damage in the table of this tree, and changes nothing
+-- a look-up finds the rows that pass the test in a table, or tells of damage in the table of this tree, and changes nothing
 pub record FindsRows {S A : Type 0} (g : Ghosts S) (old new : Transaction S) (rows : Tables → List A) (test : A → Bool) (as_row : A → Row) (fits : A → Type 0) (tree : ℕ) (result : Result (Vec A Global) RowError) : Type 0 where
-  -- it still borrows that connection
+  -- the transaction still borrows that connection
   pub same : new.conn.ghost_name ≡ old.conn.ghost_name
   pub found : FindsAll g old new rows test result
   pub refused : TellsDamage g old new as_row fits tree result

@@ -245,7 +245,7 @@ pub record AreCountsPaired (vouchers : List VoucherRow) (rows : OtherRows) : Typ
   pub exits : AreExitsPaired rows.counts.items rows.exits.items
   pub spents : AreSpentsPaired vouchers rows.spents.items
 
--- the same of all tables that were read
+-- in all tables that were read each count has its exits and each voucher what is spent of it, and there are no others
 abbrev pub ArePaired : TableRows → Type 0
 ArePaired tables = AreCountsPaired tables.sales.vouchers.items tables.others
 
@@ -255,7 +255,7 @@ pub record IsInOrder (file : File) : Type 0 where
   pub used : AreInOrder (λ c. c.quota) file.used
   pub redeemed : AreInOrder (λ c. c.voucher) file.redeemed
 
--- so do they as they were read, where some counts may lack their exits, and some vouchers what is spent of them
+-- ids rise as the rows were read, where some counts may lack their exits, and some vouchers what is spent of them
 pub record AreReadInOrder (shop : ShopRow) (tables : TableRows) : Type 0 where
   pub file : IsInOrder (file_arranged shop tables)
   pub sales : SalesRise tables.sales

@@ -46,7 +46,8 @@ pub record ChangesFit (Fits : Tables → Type 0) (change : Tables → Tables) (o
   pub listed : IsDatabase old.now → IsDatabase new.now
   pub holds : (t : Tables) → Fits t → Holds old.now.trees t → Holds new.now.trees (change t)
 
--- the same with nothing asked of the tables
+-- the transaction goes on, over trees that list the schema, if they did; and whatever the tables held, they hold what the change makes of
+-- it
 pub record Changes (change : Tables → Tables) (old new : State) : Type 0 where
   pub known : new.now.schema ≡ schema
   pub inside : new.in_transaction ≡ true

@@ -36,7 +36,7 @@ LacksSales s = HasNoMeaning s vouchers_text ⊎ (HasNoMeaning s carts_text ⊎ (
 abbrev pub LacksDoors : Schema → Type 0
 LacksDoors s = HasNoMeaning s checkin_lists_text ⊎ (HasNoMeaning s list_items_text ⊎ HasNoMeaning s checkins_text)
 
--- one of the other tables, or a column of it, isn't there: counts, tokens or kept answers
+-- a table of the others, or a column of it, isn't there: counts, tokens or kept answers
 abbrev pub LacksOthers : Schema → Type 0
 LacksOthers s = HasNoMeaning s counts_text ⊎ (HasNoMeaning s tokens_text ⊎ HasNoMeaning s kept_text)
 
@@ -78,11 +78,11 @@ HasOthers s = HasMeaning s counts_text × (HasMeaning s tokens_text × HasMeanin
 abbrev pub HasFirst : Schema → Type 0
 HasFirst s = HasCatalogue s × (HasSales s × (HasDoors s × HasOthers s))
 
--- those of the second version
+-- all tables that the second version brought
 abbrev pub HasSides : Schema → Type 0
 HasSides s = HasMeaning s releases_text × HasMeaning s exits_text
 
--- those of the third version
+-- all tables that the third version brought
 abbrev pub HasSums : Schema → Type 0
 HasSums s = HasMeaning s budgets_text × (HasMeaning s spents_text × HasMeaning s discounts_text)
 
@@ -145,7 +145,7 @@ ShowsBy sql db rows = (c : Compiled) × (understood db.schema sql ≡ Ok c) × (
 abbrev pub HasOtherVersion : ℕ → ℤ → List Row → Type 0
 HasOtherVersion own version rows = (row : Row) × (rows ≡ row ∷ []) × (column row 1 ≡ Int version) × (version ≢ pos own)
 
--- these rows aren't one row with a version other than the one that is asked for
+-- the rows aren't a single row with a version other than the one that is asked for
 abbrev pub HasNoOtherVersion : ℕ → List Row → Type 0
 HasNoOtherVersion own rows = (version : ℤ) → HasOtherVersion own version rows → ⊥
 

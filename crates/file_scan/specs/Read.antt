@@ -46,19 +46,19 @@ pub record HoldsOthers (db : Trees) (rows : OtherRows) : Type 0 where
   pub tokens : IsPermutation (map token_row rows.tokens.items) (rows_at db 22)
   pub kept : IsPermutation (map kept_row rows.kept.items) (rows_at db 24)
 
--- those of the tables of the first version
+-- the rows of the tables of the first version
 pub record HoldsFirst (db : Trees) (rows : TableRows) : Type 0 where
   pub catalogue : HoldsCatalogue db rows.catalogue
   pub sales : HoldsSales db rows.sales
   pub doors : HoldsDoors db rows.doors
   pub others : HoldsOthers db rows.others
 
--- those of the tables of the second version
+-- the rows of the tables that the second version brought
 pub record HoldsSides (db : Trees) (released : List ReleaseRow) (exited : List ExitRow) : Type 0 where
   pub releases : IsPermutation (map release_row released) (rows_at db 27)
   pub exits : IsPermutation (map exit_row exited) (rows_at db 28)
 
--- those of the tables of the third version
+-- the rows of the tables that the third version brought
 pub record HoldsSums (db : Trees) (budgeted : List BudgetRow) (spent : List SpentRow) (discounted : List DiscountRow) : Type 0 where
   pub budgets : IsPermutation (map budget_row budgeted) (rows_at db 29)
   pub spents : IsPermutation (map spent_row spent) (rows_at db 30)
@@ -69,13 +69,13 @@ pub record HasNoSides (rows : TableRows) : Type 0 where
   pub releases : rows.catalogue.releases.items ≡ []
   pub exits : rows.others.exits.items ≡ []
 
--- those of the third version have none
+-- the tables of the third version have no rows
 pub record HasNoSums (rows : TableRows) : Type 0 where
   pub budgets : rows.sales.budgets.items ≡ []
   pub spents : rows.others.spents.items ≡ []
   pub discounts : rows.sales.discounts.items ≡ []
 
--- those of all tables of this version, beside the shop's own; the tables that it hasn't have none
+-- the rows of all tables of this version, beside the shop's own; the tables that it hasn't have none
 pub record HoldsRows (own : ℕ) (db : Trees) (rows : TableRows) : Type 0 where
   pub first : HoldsFirst db rows
   pub sides : 2 ≤ own → HoldsSides db rows.catalogue.releases.items rows.others.exits.items

@@ -23,11 +23,12 @@ use Rattle.file_scan.specs.Causes.{rows_at, ShowsBy, HasNoOtherVersion, HasTable
 abbrev pub OfOpen : {S : Type 0} → Ghosts S → Held S → Held S → (Database → Type 0) → Type 0
 OfOpen g old new Holds = HasCleanDisk (state g new) → (db : Database) → IsOpenAt db (state g old) → Holds db
 
--- the same of a file that has this version or a later one of ours
+-- this holds of what an open connection showed of a file of this version or a later one of ours, if until now the disk returned what was
+-- written
 abbrev pub OfVersion : {S : Type 0} → ℕ → Ghosts S → Held S → Held S → (Database → Type 0) → Type 0
 OfVersion since g old new Holds = OfOpen g old new (λ db. IsSince since db.schema → Holds db)
 
--- the same of one of this program's version
+-- this holds of what an open connection showed of a file of this program's version, if until now the disk returned what was written
 abbrev pub OfThisVersion : {S : Type 0} → Ghosts S → Held S → Held S → (Database → Type 0) → Type 0
 OfThisVersion g old new Holds = OfOpen g old new (λ db. db.schema ≡ schema → Holds db)
 
@@ -97,7 +98,7 @@ OfBoth first second both = first both.0 × second both.1
 abbrev pub Both : {T : Type 0} → (T → Type 0) → (T → Type 0) → T → Type 0
 Both first second it = first it × second it
 
--- one of them does
+-- the first holds of it, or the second does
 abbrev pub Either : {T : Type 0} → (T → Type 0) → (T → Type 0) → T → Type 0
 Either first second it = first it ⊎ second it
 

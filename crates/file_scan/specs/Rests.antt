@@ -14,13 +14,13 @@ pub record IsAt (db : Database) (s : State) : Type 0 where
   pub now : s.now ≡ db
   pub committed : s.committed ≡ db
 
--- the same of one that is open
+-- the connection is open and shows this, and so did the last commit leave it
 pub record IsOpenAt (db : Database) (s : State) : Type 0 where
   pub is_open : IsTrue s.is_open
   pub now : s.now ≡ db
   pub committed : s.committed ≡ db
 
--- it shows these tables
+-- the connection shows these tables
 pub record ShowsTables (t : Tables) (s : State) : Type 0 where
   pub db : Database
   pub at : IsAt db s
@@ -32,7 +32,7 @@ pub record StaysOpen (old new : State) : Type 0 where
   pub was_open : IsTrue old.is_open
   pub stays : (db : Database) → IsAt db old → IsAt db new
 
--- so it is while the connection is open
+-- while the connection is open, it was open before and shows what it showed
 abbrev pub Rests : State → State → Type 0
 Rests old new = HasCleanDisk new → IsTrue new.is_open → StaysOpen old new
 

@@ -45,11 +45,11 @@ flag name = record { name = name; kind = Integer; needed = true; truth = true; u
 abbrev pub refers : List ℕ → List ℕ → Field
 refers name parent = record { name = name; kind = Integer; needed = true; truth = false; unique = false; parent = Some parent }
 
--- the same column, which may be null
+-- a column as it was, which may be null
 abbrev pub optional : Field → Field
 optional f = record f { needed = false }
 
--- the same column, which no two rows share
+-- a column as it was, which no two rows share
 abbrev pub unique : Field → Field
 unique f = record f { unique = true }
 

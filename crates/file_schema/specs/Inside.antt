@@ -11,7 +11,7 @@ use Rattle.sqlite.specs.State.{HasCleanDisk, Executes, KeepsCommit, Survives}
 
 -- the transaction goes on over the connection that it had, and commits nothing
 pub record StaysInside {S : Type 0} (g : Ghosts S) (old new : MutBor (Held S)) : Type 0 where
-  -- it still borrows that connection
+  -- the transaction still borrows that connection
   pub same : new.ghost_name ≡ old.ghost_name
   -- while the disk is clean, the last commit is what it was
   pub kept : HasCleanDisk (state g new.now) → KeepsCommit (state g old.now) (state g new.now)

@@ -28,7 +28,7 @@ command_in (Err e) = None
 abbrev pub AsksFor : Command → List ℕ → Type 0
 AsksFor command sql = (command_in (understood schema sql) ≡ Some command) × IsPlain (understood schema sql)
 
--- so many places, from this one on
+-- as many places, from this one on
 abbrev pub places : ℕ → ℕ → List ℕ
 places from count = range_with_len from count
 

@@ -23,10 +23,10 @@ use Rattle.file_tables.specs.Tokens.{house_with, IsNumbered, HasNoRoom, AddsNext
 -- A digest that stands keeps its number, and nothing changes. Any other gets the next one, all of it or nothing, in a crash too. The office and
 -- the kept answers stay as they are.
 pub record AddsToken {S : Type 0} (g : Ghosts S) (old new : SqlTables S) (digest : List ℕ) (result : Result ℕ TokenError) : Type 0 where
-  -- it answers the digest's number, on an open connection
+  -- the answer is the digest's number, on an open connection
   pub number : OfKnownHouse g old new (λ house. IfOk result (IsNumbered (house.tokens digest) old.head.next_token))
   pub was_open : OnOkWhileClean g old.connection new.connection WasOpen result
-  -- it is refused as full only where a new digest has no room, on an open connection
+  -- the token is refused as one too many only where a new digest has no room, on an open connection
   pub full : OfKnownHouse g old new (λ house. result ≡ Err Full → HasNoRoom (house.tokens digest) old.head.next_token)
   pub full_open : WhileClean g old.connection new.connection (λ was is. result ≡ Err Full → IsTrue was.is_open)
   -- the shop's row and the rows of all tables are those after the digest, and rows are numbered on from where they were
@@ -46,7 +46,7 @@ pub record AddsToken {S : Type 0} (g : Ghosts S) (old new : SqlTables S) (digest
   -- a crash leaves what it could have left before, or the next token added; where the digest had a number, the first
   pub crash : LeavesMade g old.connection new.connection schema (AddsNext old.head digest)
   pub known_crash : OfKnownHouse g old new (λ house. (number : ℕ) → house.tokens digest ≡ Some number → LeavesNoMore g old.connection new.connection)
-  -- it leaves a shop that it could have left before, or the office and the answers that the tables held
+  -- a crash leaves a shop that it could have left before, or the office and the answers that the tables held
   pub leaves : (left : ShopView) → Leaves (state g new.connection) left
       → Leaves (state g old.connection) left ⊎ ((s : State) (ks : List Kept) → TablesHold g old s ks → IsSame left (record { state = s; kept = ks }))
   -- once a new digest is in, a crash leaves what the connection sees

@@ -56,7 +56,7 @@ pub record IsUpgraded (shop : ShopRow) (exits : List ExitRow) (spents : List Spe
   pub known : after.schema ≡ schema
   pub holds : (t : Tables) → HoldsAt from db.trees t → Holds after.trees (with_head shop (with_spents spents (with_exits exits t)))
 
--- one token more, and the shop's row is this one
+-- the tables with a token more, and with this shop's row
 abbrev pub token_added : ShopRow → Token → Tables → Tables
 token_added shop token t = with_token token (with_head shop t)
 

@@ -10,7 +10,7 @@ use Rattle.file_rows.specs.Tables.{Tables, Holds}
 use Rattle.file_meaning.specs.Free.{IsFree}
 use Rattle.file_meaning.specs.Made.{commit_made, next_after}
 
--- it has a shop's tables; and whatever they held, if rows may be numbered from here on, they hold what is made of that
+-- the database has a shop's tables; and whatever they held, if rows may be numbered from here on, they hold what is made of that
 pub record Turns (from : ℕ) (change : Tables → Tables) (before after : Database) : Type 0 where
   pub known : after.schema ≡ schema
   pub holds : (t : Tables) → IsFree from t → Holds before.trees t → Holds after.trees (change t)

@@ -15,14 +15,14 @@ AreAllOfShop rows test db found = db.schema ≡ schema → AreAllThatPass rows t
 abbrev pub number_of : List Token → List ℕ → Option ℕ
 number_of tokens digest = option_map (λ t. t.id) (find (has_digest digest) tokens)
 
--- it has a shop's tables, and in that of kept answers these, in some order
+-- the database has a shop's tables, and in that of kept answers these, in some order
 pub record KeepsAnswers (db : Database) (answers : List Kept) : Type 0 where
   pub known : db.schema ≡ schema
   pub tables : Tables
   pub held : Holds db.trees tables
   pub kept : IsPermutation (map (λ r. r.kept) tables.kept) answers
 
--- it has a shop's tables, and that of tokens tells the number of each digest
+-- the database has a shop's tables, and that of tokens tells the number of each digest
 pub record KnowsTokens (db : Database) (tokens : List ℕ → Option ℕ) : Type 0 where
   pub known : db.schema ≡ schema
   pub tables : Tables

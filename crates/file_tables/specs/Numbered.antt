@@ -13,6 +13,6 @@ use Rattle.file_meaning.specs.Made.{made_by, next_by}
 abbrev pub NumbersOn : {S E : Type 0} → Ghosts S → Transaction S → Transaction S → ℕ → (Tables → Tables) → ℕ → Result ℕ E → Type 0
 NumbersOn g old new from change next result = NumbersInside g old new (ChangesFit (IsFree from) change) next result
 
--- so it writes this change of a row
+-- a write of a change of a row stays inside the transaction, and answers the next number of a row
 abbrev pub WritesChange : {S E : Type 0} → Ghosts S → Transaction S → Transaction S → Change → ℕ → Result ℕ E → Type 0
 WritesChange g old new change from result = NumbersOn g old new from (made_by change from) (next_by change from) result

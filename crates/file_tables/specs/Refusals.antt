@@ -15,7 +15,7 @@ refusal_of rows.Foreign = tables.Store
 refusal_of rows.Damaged = tables.Store
 refusal_of rows.Store = tables.Store
 
--- the same where they aren't made
+-- how a row's error is told where the tables can't be made
 abbrev pub making_refusal : RowError → CreateError
 making_refusal rows.Memory = making.Memory
 making_refusal rows.Foreign = making.Store

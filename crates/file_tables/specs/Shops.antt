@@ -30,7 +30,7 @@ pub record Keeps (head : ShopRow) (next : ℕ) (c : Connected) (s : State) (answ
   pub typed : IsTypedShop head tables
   pub free : IsFree next tables
 
--- so it is while the connection is open
+-- while the connection is open, its tables hold this office and these answers
 abbrev pub HoldsWhileOpen : ShopRow → ℕ → Connected → State → List Kept → Type 0
 HoldsWhileOpen head next c s answers = IsTrue c.is_open → Keeps head next c s answers
 
@@ -38,7 +38,7 @@ HoldsWhileOpen head next c s answers = IsTrue c.is_open → Keeps head next c s 
 abbrev pub house_of_rows : ShopRow → List Token → House
 house_of_rows shop tokens = record { organizer = shop.organizer; event = shop.event; tokens = number_of tokens; next_token = shop.next_token }
 
--- these trees hold a shop's tables; this is the shop's row, and with their tokens it tells this house
+-- the trees hold a shop's tables; this is the shop's row, and with their tokens it tells this house
 pub record Tells (trees : Trees) (head : ShopRow) (house : House) : Type 0 where
   pub tables : Tables
   pub held : Holds trees tables

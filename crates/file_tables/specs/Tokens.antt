@@ -15,7 +15,7 @@ most_tokens = 1000000
 abbrev pub also_known : List ℕ → ℕ → (List ℕ → Option ℕ) → List ℕ → Option ℕ
 also_known digest number tokens other = if bytes_eq digest other then Some number else tokens other
 
--- the same house once this digest has this number, and the next token gets that one
+-- the house once this digest has this number, and the next token gets that one
 abbrev pub house_with : List ℕ → ℕ → ℕ → House → House
 house_with digest number next house = record house { tokens = also_known digest number house.tokens; next_token = next }
 

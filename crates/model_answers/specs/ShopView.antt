@@ -11,7 +11,7 @@ pub record ShopView : Type 0 where
   pub state : State
   pub kept : List Kept
 
--- the same rows, and the same answers in some order
+-- two shops have the same rows, and the same answers in some order
 pub record IsSame (a b : ShopView) : Type 0 where
   pub state : a.state ≡ b.state
   pub kept : IsPermutation a.kept b.kept

@@ -89,6 +89,6 @@ variation_if_any_is_active (Some id) lists = variation_is_active (variation_at i
 abbrev pub is_active : Product → CatalogueLists → Bool
 is_active product lists = item_is_active (item_at product.item lists) && variation_if_any_is_active product.variation lists
 
--- it is in a quota
+-- the product is in a quota
 abbrev pub is_sold : Product → CatalogueLists → Bool
 is_sold product lists = list_any (λ quota. is_in quota product) lists.quotas

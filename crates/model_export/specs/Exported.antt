@@ -20,6 +20,6 @@ export_row lists o p = record { order = o.id; positionid = p.positionid; status 
 abbrev pub rows_of_order : Lists → Order → List ExportRow
 rows_of_order lists o = map (export_row lists o) (by_positionid (positions_of o.id lists))
 
--- one line for each position: order by order, by number
+-- the rows of an export, a row for each position: order by order, by number
 abbrev pub rows_exported : Lists → List ExportRow
 rows_exported lists = flat_map (rows_of_order lists) lists.orders

@@ -5,7 +5,7 @@ use Rattle.base_sorted.specs.Tables.{AreInOrder}
 use Rattle.model_rows.specs.declared.rows.NextIds.{NextIds}
 use Rattle.model_rows.specs.Lists.{Lists}
 
--- one statement for each table
+-- a statement for each table
 pub record EachTable (of_items of_variations of_quotas of_vouchers of_carts of_orders of_positions of_waiting of_checkin_lists of_checkins : Type 0) : Type 0 where
   pub items : of_items
   pub variations : of_variations

@@ -33,7 +33,7 @@ pub record IsLimitedItem (row : Item) : Type 0 where
   pub name : IsText row.name
   pub price : IsMoney row.default_price
 
--- so are a variation's, where it has a price
+-- a variation's name is a text, and its price, where it has one, is money
 pub record IsLimitedVariation (row : Variation) : Type 0 where
   pub name : IsText row.name
   pub price : IfSome row.default_price IsMoney

@@ -18,5 +18,5 @@ has_own_code voucher = not (is_reserved voucher.code) || ends_with nat_eq vouche
 pub record HaveCodes (vouchers : List Voucher) : Type 0 where
   -- a code tells which voucher it is
   pub unlike : AreUnlike vouchers
-  -- one of the form that the shop makes ends in its own voucher's id
+  -- a code of the form that the shop makes ends in its own voucher's id
   pub own : AllByRecursion (λ v. has_own_code v ≡ true) vouchers

@@ -28,6 +28,6 @@ abbrev pub HaveUnlikeSecrets : List OrderPos → Type 0
 HaveUnlikeSecrets [] = Unit {0}
 HaveUnlikeSecrets (p ∷ ps) = AllByRecursion (λ q. same_text p.secret q.secret ≡ false) ps × HaveUnlikeSecrets ps
 
--- one of these has its list, its position and its nonce
+-- a check-in of these has the list, the position and the nonce of this one
 abbrev pub is_repeated : Checkin → List Checkin → Bool
 is_repeated row checkins = list_any (λ c. repeats c row) checkins

@@ -42,7 +42,7 @@ pub record HasTarget (catalogue : CatalogueLists) (voucher : Voucher) : Type 0 w
   pub item : item_stands catalogue voucher.item ≡ true
   pub variation : variation_stands catalogue voucher.item voucher.variation ≡ true
   pub quota : quota_stands catalogue voucher.quota ≡ true
-  -- it names no quota beside an item, and no variation without an item
+  -- the voucher names no quota beside an item, and no variation without an item
   pub one : has_one_target voucher ≡ true
 
 -- this holds of each voucher

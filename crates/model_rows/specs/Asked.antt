@@ -11,7 +11,8 @@ use Rattle.base_values.specs.Texts.{same_text}
 use Rattle.model_rows.specs.declared.rows.CartPos.{CartPos}
 use Rattle.model_rows.specs.declared.rows.OrderPos.{OrderPos}
 
--- the same of the voucher of this id; it holds too where none is named or there
+-- the voucher of this id, if it blocks, names a quota or a variation, or the product has no variation; where none is named or there,
+-- nothing is asked
 abbrev pub is_exact : Lists → Product → Option ℕ → Bool
 is_exact lists product None = true
 is_exact lists product (Some id) = is_exact_if product (voucher_at id lists)
@@ -20,7 +21,7 @@ is_exact lists product (Some id) = is_exact_if product (voucher_at id lists)
 abbrev pub AllExact : Lists → Type 0
 AllExact lists = AllByRecursion (λ p. is_exact lists p.product p.voucher ≡ true) lists.positions
 
--- those of them that are for a product of the quota
+-- the cart positions that hold the voucher and are for a product of the quota
 abbrev pub held_in : ℕ → Quota → ℕ → Lists → ℕ
 held_in at quota id lists = count_by (λ c. holds at id c && is_in quota c.product) lists.carts
 

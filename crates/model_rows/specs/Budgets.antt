@@ -7,7 +7,7 @@ use Rattle.model_rows.specs.Conditions.{names}
 use Rattle.model_rows.specs.Lists.{Lists, voucher_at}
 use Rattle.model_rows.specs.Usage.{spent}
 
--- so much is within the budget, if there is one
+-- an amount is within the budget, if there is one
 abbrev pub covers : Option ℕ → ℕ → Bool
 covers None amount = true
 covers (Some budget) amount = nat_le amount budget

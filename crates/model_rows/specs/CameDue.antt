@@ -32,7 +32,7 @@ abbrev pub names_due_by : ℕ → ℕ → Lists → Option ℕ → Bool
 names_due_by from to lists None = false
 names_due_by from to lists (Some id) = is_due_if from to (voucher_at id lists)
 
--- it names a voucher that came due
+-- the cart position names a voucher that came due
 abbrev pub names_due : ℕ → ℕ → Lists → CartPos → Bool
 names_due from to lists cart = names_due_by from to lists cart.voucher
 

@@ -22,7 +22,7 @@ after_change (DropWaiting id) lists = record lists { waiting = without_row (λ r
 after_change (PutCheckinList row) lists = record lists { checkin_lists = with_row (λ r. r.id) row lists.checkin_lists }
 after_change (PutCheckin row) lists = record lists { checkins = with_row (λ r. r.id) row lists.checkins }
 
--- one change after another
+-- the lists after changes, made in order
 abbrev pub after_all : List Change → Lists → Lists
 after_all [] lists = lists
 after_all (change ∷ changes) lists = after_all changes (after_change change lists)

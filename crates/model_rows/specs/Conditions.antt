@@ -28,7 +28,7 @@ is_in_force Paid = true
 is_in_force Expired = false
 is_in_force Cancelled = false
 
--- it hasn't ended at this moment
+-- an end, if there is one, is at this moment or later
 abbrev pub has_not_ended : ℕ → Option ℕ → Bool
 has_not_ended at None = true
 has_not_ended at (Some end) = nat_le at end

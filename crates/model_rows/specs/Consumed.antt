@@ -5,7 +5,7 @@ use Rattle.base_values.specs.Texts.{same_text}
 use Rattle.model_rows.specs.declared.rows.CartPos.{CartPos}
 use Rattle.model_rows.specs.Lists.{Lists}
 
--- it is in one of these carts
+-- the cart position is in a cart of these
 abbrev pub is_consumed : List (List ℕ) → CartPos → Bool
 is_consumed carts position = list_any (λ cart. same_text position.cart_id cart) carts
 

@@ -59,7 +59,7 @@ quotas_after before after = filter (λ c. not (list_any (same_quota_count c) (qu
 abbrev pub exits_after : State → List QuotaCount → List QuotaCount
 exits_after before counts = filter (λ c. not (list_any (same_exits c) (quota_counts before))) counts
 
--- these where the one office comes before the other
+-- the counts that differ where the one office comes before the other
 abbrev pub counts_after : State → State → CountRows
 counts_after before after = record {
   quotas = quotas_after before after;

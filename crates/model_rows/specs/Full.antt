@@ -16,7 +16,7 @@ takes_voucher state = takes_row state.next.voucher state.lists.vouchers
 abbrev pub takes_order : State → Bool
 takes_order state = nat_lt (length state.lists.orders) last_order && nat_le state.next.order last_order
 
--- so many more order positions, whose ids count on
+-- the table takes as many order positions more, whose ids count on
 abbrev pub takes_positions : ℕ → State → Bool
 takes_positions count state = takes_rows count state.next.position state.lists.positions
 

@@ -19,12 +19,12 @@ HasHeadroom at lists voucher = redeemed voucher.id lists + held at voucher.id li
 abbrev pub AllHaveHeadroom : ℕ → Lists → Type 0
 AllHaveHeadroom at lists = AllByRecursion (HasHeadroom at lists) lists.vouchers
 
--- one more cart position may name the voucher
+-- a cart position more may name the voucher
 abbrev pub has_use_by : ℕ → Lists → Option Voucher → Bool
 has_use_by at lists None = true
 has_use_by at lists (Some voucher) = nat_lt (redeemed voucher.id lists + held at voucher.id lists) voucher.max_usages
 
--- one more cart position may name the voucher of this id; it holds too where none is named or there
+-- a cart position more may name the voucher of this id; where none is named or there, nothing is asked
 abbrev pub has_use : ℕ → Lists → Option ℕ → Bool
 has_use at lists None = true
 has_use at lists (Some id) = has_use_by at lists (voucher_at id lists)

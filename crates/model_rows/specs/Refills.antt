@@ -9,7 +9,7 @@ use Rattle.model_rows.specs.declared.rows.Status.TheVariants.{Pending, Paid, Exp
 use Rattle.model_rows.specs.Lists.{Lists, positions_of}
 use Rattle.model_rows.specs.Usage.{is_covered_by, is_released}
 
--- it has gone out of a quota that releases its place, of which its voucher, which is live, would block one again
+-- the position has gone out of a quota that releases its place, of which its voucher, which is live, would block a place again
 abbrev pub blocks_again : Lists → ℕ → Quota → OrderPos → Bool
 blocks_again lists at quota position = is_released lists quota position && is_covered_by lists at quota position.voucher
 

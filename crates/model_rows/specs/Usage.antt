@@ -70,7 +70,7 @@ has_none (Some voucher) = false
 abbrev pub waits_for : Quota → Waiting → Bool
 waits_for quota entry = has_none entry.voucher && is_in quota entry.product
 
--- it has gone out, and the quota lets its place be sold again
+-- the position has gone out, and the quota lets its place be sold again
 abbrev pub is_released : Lists → Quota → OrderPos → Bool
 is_released lists quota position = quota.release_after_exit && is_out position.id lists.checkins
 

@@ -8,7 +8,7 @@ use Rattle.model_rows.specs.Conditions.{same_id}
 use Rattle.model_rows.specs.Lists.{Lists}
 use Rattle.model_rows.specs.Usage.{has_none}
 
--- one item, and one variation or none
+-- two products are the same item, and the same variation or none
 abbrev pub same_product : Product → Product → Bool
 same_product a b = a.item == b.item && same_id a.variation b.variation
 

@@ -78,7 +78,7 @@ now p fs a = max (latest p.state.moment fs) (min a.clock last_moment)
 abbrev pub is_repeat : Opening → List First → Arrival → Bool
 is_repeat p fs a = list_any (λ k. repeats a (now p fs a) k.token k.key k.at) p.kept || list_any (λ f. repeats a (now p fs a) f.arrival.token f.arrival.key f.at) fs
 
--- it is a write, wasn't answered 503, and is no repeat
+-- the arrival is a write, wasn't answered 503, and is no repeat
 abbrev pub is_first : Opening → List First → Delivery → Bool
 is_first p fs d = is_write d.arrival.request && not d.unavailable && not (is_repeat p fs d.arrival)
 

@@ -7,7 +7,7 @@ use Rattle.office_deliveries.specs.declared.arrival.Arrival.{Arrival}
 use Rattle.office_deliveries.specs.Deliveries.{Opening, Delivery, First, came, is_write, is_first, firsts, now, answer_told}
 use Rattle.model_answers.specs.KeptAnswers.{has_key, a_day}
 
--- it shows the key of that arrival, and its token
+-- an arrival shows the key of the other, and its token
 pub record HasTheKeyOf (a b : Arrival) : Type 0 where
   pub keyed : has_key a.key ≡ true
   pub token : b.token ≡ a.token

@@ -32,7 +32,7 @@ delivered_all [] answers = []
 delivered_all (a ∷ more) [] = []
 delivered_all (a ∷ more) (answer ∷ answers) = arrival_delivered a answer ∷ delivered_all more answers
 
--- These tables and this office are those of the shop.
+-- Tables and office are those of the shop.
 pub record Views {T : Type 0} (holds : T → State → List Kept → Type 0) (tables : T) (state : State) (v : ShopView) : Type 0 where
   pub state_is : state ≡ v.state
   pub held : holds tables v.state v.kept
@@ -80,7 +80,7 @@ module _ (words : Reply → Response) where
   IsAnswered a old (Decided told) Leads = Leads (arrival_served a old).0 × (told ≡ (arrival_served a old).1)
   IsAnswered a old Unavailable Leads = Leads old
 
-  -- one arrival after another
+  -- the shop serves these arrivals in order
   abbrev pub ServesAll : List Arrival → ShopView → List Answer → ShopView → Type 0
   ServesAll [] old [] new = new ≡ old
   ServesAll [] old (answer ∷ answers) new = ⊥
@@ -96,7 +96,7 @@ module _ (words : Reply → Response) where
     pub office : shop.state ≡ office words p (firsts p ds)
     pub kept : shop.kept ≡ answers_kept words p (firsts p ds)
 
-  -- these tables and this office are those of a shop that stands for a list of arrivals
+  -- tables and office are those of a shop that stands for a list of arrivals
   abbrev pub StandsFor : {T : Type 0} → (T → State → List Kept → Type 0) → T → State → Opening → List Delivery → Type 0
   StandsFor holds tables state p ds = Views holds tables state (shop_after p (firsts p ds))
 

@@ -53,14 +53,14 @@ RunsOn words holds may_leave a answer old new =
     (r : Running) → IsRunning words holds may_leave old.tables old.state r
     → IsRunning words holds may_leave new.tables new.state (after_act words a answer r) × TellsIt words a answer r.shop
 
--- it changes this and tells this, as the request asks for; what that leaves is sound, and its counts shift so
+-- a decision changes this and answers this, as the request asks for; what that leaves is sound, and its counts shift so
 pub record Decides (words : Reply → Response) (request : Request) (at : ℕ) (draw : Draw) (state : State) (drafted : Drafted) (response : Response) : Type 0 where
   pub made : (let both : State × Response = (changes_applied drafted.changes at state, response) in both ≡ request_done words request at draw state)
   pub sound : IsSound (changes_applied drafted.changes at state)
   pub shifts : HasShifts at state.lists drafted
 
 module _ {T W : Type 0} (is_sure : T → Type 0) (knows : T → House → Type 0) (holds : T → State → List Kept → Type 0) (may_leave : T → ShopView → Type 0) where
-  -- it asks the tables and changes nothing; this is so of what it found
+  -- a call asks the tables and changes nothing; this holds of what it found
   pub record OnlyAsks (old new : OpenShop T W) (Found : Type 0) : Type 0 where
     pub wording : new.wording ≡ old.wording
     pub office : new.state ≡ old.state

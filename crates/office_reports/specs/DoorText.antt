@@ -19,7 +19,7 @@ door_columns positions entered inside = column 9 (decimal positions) ++ (column 
 abbrev pub door_line : Item → Entries → List ℕ
 door_line item e = right 6 (decimal item.id) ++ (door_columns e.positions e.entered e.inside ++ (codes "  " ++ (item.name ++ 10 ∷ [])))
 
--- the same of all positions that belong to the list
+-- the line of all positions that belong to the list: how many there are, who came in, and who is inside
 abbrev pub status_line : DoorStatus → List ℕ
 status_line s = codes " total" ++ (door_columns s.positions s.entered s.inside ++ 10 ∷ [])
 

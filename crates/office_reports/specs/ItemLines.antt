@@ -18,7 +18,7 @@ abbrev pub door_line_if : Option Item → Entries → List ℕ
 door_line_if None e = []
 door_line_if (Some item) e = door_line item e
 
--- one line after another; a number that no item has gives none
+-- a line for each item, in order; a number that no item has gives none
 abbrev pub door_lines : CatalogueLists → List ItemEntries → List ℕ
 door_lines catalogue [] = []
 door_lines catalogue (r ∷ rs) = door_line_if (item_at r.item catalogue) r.entries ++ door_lines catalogue rs

@@ -49,6 +49,6 @@ pub record IsFew (n : ℕ) (s : Sales) : Type 0 where
   pub cancelled : s.cancelled ≤ n
   pub amount : s.amount ≤ n * last_cents
 
--- the same of each item
+-- no count of an item is beyond this
 abbrev pub AreFew : ℕ → List ItemSales → Type 0
 AreFew n rows = AllByRecursion (λ r. IsFew n r.sales) rows

@@ -18,7 +18,7 @@ sales_columns s = column 7 (decimal s.paid) ++ (column 7 (decimal s.pending) ++ 
 abbrev pub sales_line : Item → Sales → List ℕ
 sales_line item s = right 6 (decimal item.id) ++ (sales_columns s ++ (codes "  " ++ (item.name ++ 10 ∷ [])))
 
--- the same of all items
+-- the line of what was sold of all items
 abbrev pub total_line : Sales → List ℕ
 total_line s = codes " total" ++ (sales_columns s ++ 10 ∷ [])
 

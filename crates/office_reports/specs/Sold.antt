@@ -33,7 +33,7 @@ status_passes test (Some order) = test order.status
 abbrev pub is_sold : ℕ → (Status → Bool) → Lists → OrderPos → Bool
 is_sold item test lists position = position.product.item == item && status_passes test (order_at position.order lists)
 
--- so many of these positions are of the item, in orders of such a status
+-- how many of these positions are of the item, in orders of such a status
 abbrev pub positions_sold : ℕ → (Status → Bool) → Lists → List OrderPos → ℕ
 positions_sold item test lists positions = count_by (is_sold item test lists) positions
 

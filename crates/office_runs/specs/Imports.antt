@@ -21,7 +21,7 @@ is_kept _ = false
 abbrev pub IsSameAgain : State → Draw → List NewVoucher → NewVoucher → Verdict → Type 0
 IsSameAgain later draw before new verdict = is_some new.code ≡ true → is_kept verdict ≡ true → (row_imported new draw (rows_imported before draw later).0).1 ≡ Same
 
--- the same of each row of an import and its verdict, always behind the same rows
+-- each row of an import with a code, if it was kept, is the same in an import into a later office, always behind the same rows
 abbrev pub AreSameAgain : State → Draw → List NewVoucher → List NewVoucher → List Verdict → Type 0
 AreSameAgain later draw before (new ∷ more) (verdict ∷ verdicts) = IsSameAgain later draw before new verdict × AreSameAgain later draw before more verdicts
 AreSameAgain later draw before _ _ = Unit {0}

@@ -9,7 +9,7 @@ pub record IdsGoOn {T : Type 0} (key : T → ℕ) (next next' : ℕ) (rows rows'
   pub rises : next ≤ next'
   pub new : (id : ℕ) → is_some (row_at key id rows') ≡ true → (is_some (row_at key id rows) ≡ true) ⊎ ((next ≤ id) × (id < next'))
 
--- so in each table
+-- in each table the next id doesn't fall, and a new row's id lies between the next id before and the next id after
 pub record AllIdsGoOn (before after : State) : Type 0 where
   pub items : IdsGoOn (λ r. r.id) before.next.item after.next.item before.lists.catalogue.items after.lists.catalogue.items
   pub variations : IdsGoOn (λ r. r.id) before.next.variation after.next.variation before.lists.catalogue.variations after.lists.catalogue.variations

@@ -94,7 +94,7 @@ abbrev pub ticket_in : ℕ → Lists → Option CheckinList → Reply
 ticket_in id lists None = Refused kinds.One (refusals.Door NoList)
 ticket_in id lists (Some list) = ticket_found list lists (position_at id lists)
 
--- one row
+-- the answer that shows a single row
 abbrev pub one_of : Resource → ℕ → Lists → Reply
 one_of Items id lists = item_found lists (item_at id lists.catalogue)
 one_of Quotas id lists = quota_found (quota_at id lists.catalogue)

@@ -48,10 +48,10 @@ pub record IsStep (command : Command) (at : ℕ) (draw : Draw) (state : State) (
   pub refused : RefusesWithoutChange state (made.0.changes, made.1)
   pub shifts : HasShifts at state.lists made.0
 
--- the same with whatever draw: the command needs none
+-- what was made is the command's step with whatever draw: the command needs none
 abbrev pub IsUndrawnStep : Command → ℕ → State → Drafted × Reply → Type 0
 IsUndrawnStep command at state made = (draw : Draw) → IsStep command at draw state made
 
--- the same at whatever moment, and with whatever draw
+-- what was made is the command's step at whatever moment, and with whatever draw
 abbrev pub IsTimelessStep : Command → State → Drafted × Reply → Type 0
 IsTimelessStep command state made = (at : ℕ) → IsUndrawnStep command at state made

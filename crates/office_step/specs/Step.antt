@@ -168,7 +168,7 @@ abbrev pub redeem_step : State → Result (State × OrderPos) DoorRefusal → St
 redeem_step state (Ok (new, position)) = (new, Admitted position)
 redeem_step state (Err refusal) = (state, Refused kinds.Redeem (refusals.Door refusal))
 
--- one command, in the office at its moment; a refusal changes nothing
+-- the step of a command, in the office at its moment; a refusal changes nothing
 abbrev pub step_now : Command → Draw → State → State × Reply
 step_now (commands.AddItem new) draw state = item_step state (item_added new state.next.item state.next.variation state.lists.catalogue)
 step_now (commands.ChangeItem id patch) draw state = item_change_step state (item_changed id patch state.lists.catalogue)
@@ -192,7 +192,7 @@ step_now commands.Periodic draw state = periodic_step (periodic_done draw state)
 step_now (commands.AddCheckinList new) draw state = checkin_list_step state (list_added new state)
 step_now (commands.Redeem list ticket scan) draw state = redeem_step state (ticket_scanned list ticket scan state)
 
--- one command at a moment, with a draw: the office after it, and its reply; the moment is stored in any case
+-- the step of a command at a moment, with a draw: the office after it, and its reply; the moment is stored in any case
 abbrev pub step : Command → ℕ → Draw → State → State × Reply
 step command at draw state = step_now command draw (record state { moment = at })
 

@@ -20,11 +20,11 @@ start = 1777629600
 abbrev pub five_places : Quota
 five_places = record { id = 1; name = []; release_after_exit = false; size = Some 5; items = 1 ∷ []; variations = [] }
 
--- it blocks two of them, for ten minutes
+-- a voucher that blocks two of the places, for ten minutes
 abbrev pub ten_minutes : Voucher
 ten_minutes = record { id = 1; code = 86 ∷ []; max_usages = 2; valid_until = Some (start + 600); block_quota = true; allow_ignore_quota = false; price_mode = modes.None; value = None; item = None; variation = None; quota = Some 1; tag = []; comment = []; budget = None }
 
--- it names the voucher, and is held for half an hour
+-- a cart position that names the voucher, and is held for half an hour
 abbrev pub half_an_hour : CartPos
 half_an_hour = record { id = 1; cart_id = []; product = record { item = 1; variation = None }; price = 2300; made_at = start; expires = start + 1800; voucher = Some 1 }
 
@@ -45,6 +45,6 @@ ending = record {
   checkins = [];
 }
 
--- so many places are blocked, and so many cart positions count
+-- a usage in which this many places are blocked, and this many cart positions count
 abbrev pub ending_usage : ℕ → ℕ → Usage
 ending_usage blocked carts = record { paid = 0; pending = 0; blocked = blocked; carts = carts; waiting = 0; exited = 0 }

@@ -22,7 +22,7 @@ evening = doors + 10800
 abbrev pub releasing : Quota
 releasing = record { id = 1; name = []; release_after_exit = true; size = Some 5; items = 1 ∷ []; variations = [] }
 
--- the same one, where it keeps the places of those who went out
+-- the releasing quota, where it keeps the places of those who went out
 abbrev pub keeping : Quota
 keeping = record releasing { release_after_exit = false }
 
@@ -46,7 +46,7 @@ came_in = ticket_seen 1 1 Entry doors
 abbrev pub went_out : Checkin
 went_out = ticket_seen 2 2 Exit (doors + 3600)
 
--- it comes in again by the first list, an hour after it went out
+-- the ticket comes in again by the first list, an hour after it went out
 abbrev pub came_back : Checkin
 came_back = ticket_seen 3 1 Entry (doors + 7200)
 
@@ -58,19 +58,19 @@ told_late = ticket_seen 2 2 Exit (doors - 60)
 abbrev pub inside : List Checkin
 inside = came_in ∷ []
 
--- it came in, and has gone out
+-- the ticket came in, and has gone out
 abbrev pub outside : List Checkin
 outside = came_in ∷ went_out ∷ []
 
--- it came in, went out, and came in again
+-- the ticket came in, went out, and came in again
 abbrev pub back : List Checkin
 back = came_in ∷ went_out ∷ came_back ∷ []
 
--- it came in, and an exit before that was reported afterwards
+-- the ticket came in, and an exit before that was reported afterwards
 abbrev pub late : List Checkin
 late = came_in ∷ told_late ∷ []
 
--- one ticket of an order, and its check-ins
+-- a shop with a single ticket of an order, and its check-ins
 abbrev pub door : Status → List Checkin → Lists
 door status checkins = record {
   catalogue = record {
@@ -87,6 +87,6 @@ door status checkins = record {
   checkins = checkins;
 }
 
--- so many are paid, so many are pending, and so many of the paid ones have gone out
+-- a usage in which this many are paid, this many are pending, and this many of the paid ones have gone out
 abbrev pub places : ℕ → ℕ → ℕ → Usage
 places paid pending exited = record { paid = paid; pending = pending; blocked = 0; carts = 0; waiting = 0; exited = exited }

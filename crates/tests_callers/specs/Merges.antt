@@ -8,7 +8,7 @@ IsMerge one other [] = (one ≡ []) × (other ≡ [])
 IsMerge one other (next ∷ order) =
     ((rest : List Next) × (one ≡ next ∷ rest) × IsMerge rest other order) ⊎ ((rest : List Next) × (other ≡ next ∷ rest) × IsMerge one rest order)
 
--- these are the orders of two lists, each of which is one
+-- the orders are those of two lists, each of which is one
 pub record AreMerges (one other : List Next) (orders : List (List Next)) : Type 0 where
   pub only : All (IsMerge one other) orders
   pub every : (order : List Next) → IsMerge one other order → Contains orders order
@@ -29,6 +29,6 @@ abbrev pub merges_of : List Next → List Next → List (List Next)
 merges_of [] other = other ∷ []
 merges_of (x ∷ xs) other = merges_with x xs (merges_of xs) other
 
--- these were added, each behind what was first
+-- the orders of two lists were added, each behind what was first
 abbrev pub AddsMerges : List Next → List Next → List Next → List (List Next) → List (List Next) → Type 0
 AddsMerges first one other old new = new ≡ old ++ map (behind first) (merges_of one other)

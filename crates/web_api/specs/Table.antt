@@ -74,7 +74,7 @@ pub record IsSegment (text : List ℕ) : Type 0 where
   pub slash : has 47 text ≡ false
   pub mark : has 63 text ≡ false
 
--- one that can stand in the place of an id or code: not the word that has a row of its own
+-- a segment that can stand in the place of an id or code: not the word that has a row of its own
 pub record IsName (id : List ℕ) : Type 0 where
   pub segment : IsSegment id
   pub other : id ≢ codes "bulk_create"

@@ -33,8 +33,8 @@ module _ (words : Reply → Response) where
   IsServed (Ok a) old answer Leads = IsAnswered words a old answer Leads
   IsServed (Err refusal) old answer Leads = Leads old × IsRefused refusal answer
 
-  -- The same over the list of arrivals till then: an arrival stands behind it, marked where it is answered 503, and is told what
-  -- is told of the list; without one the list stays.
+  -- What a message is answered, over the list of arrivals till then: an arrival stands behind it, marked where it is answered 503, and is
+  -- told what is told of the list; without one the list stays.
   abbrev pub IsListed : Result Arrival Response → Opening → List Delivery → Answer → (List Delivery → Type 0) → Type 0
   IsListed (Ok a) p ds answer Leads = Leads (ds ++ arrival_delivered a answer ∷ []) × (answer_told words p ds (arrival_delivered a answer) ≡ answer)
   IsListed (Err refusal) p ds answer Leads = Leads ds × IsRefused refusal answer

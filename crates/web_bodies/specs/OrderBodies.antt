@@ -91,7 +91,7 @@ entry_from (Err other) = entries.Faulty entry_faults.InvalidData
 abbrev pub entry_said : Data → Entry
 entry_said d = if is_some (as_object d) then entry_from (cart_of d) else entries.Faulty entry_faults.InvalidData
 
--- it may be anything, so its reading has no fault
+-- an entry of a bulk call may be anything, so its reading has no fault
 abbrev pub bulk_entry : Data → Result Entry BodyFault
 bulk_entry d = Ok (entry_said d)
 

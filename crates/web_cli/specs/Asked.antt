@@ -99,11 +99,11 @@ asked_by_line (lines.Export line) = exports line.file.now
 asked_by_line (lines.Import line) = imports line.file.now line.csv.now
 asked_by_line (lines.Migrate line) = migrates line.file.now
 
--- it asks for nothing, since an argument is not there
+-- the line asks for nothing, since an argument is not there
 abbrev pub lacks_argument : Asked
 lacks_argument = none (MissingRequiredArgument ∷ [])
 
--- it asks for nothing, and this is one of the reasons
+-- the line asks for nothing, and this is a reason of it
 abbrev pub HasReason : Asked → ErrorKind → Type 0
 HasReason (none kinds) kind = IsAmong kind kinds
 HasReason _ kind = ⊥

@@ -22,7 +22,7 @@ abbrev pub outside : {R T W : Type 0} → source.Ghosts R → clock.Ghosts T →
 outside r t w reader ticks writer =
     record { left = r.left reader; told = t.told ticks; taken = w.taken writer; counts = device_counts r t w reader ticks writer }
 
--- the same with a desk among them
+-- the devices of reader, clock and writer, with a desk among them
 abbrev pub devices_of : {D : Type 0} → D → Outside → Devices D
 devices_of desk now = record { left = now.left; calls = now.counts.calls; told = now.told; desk = desk; taken = now.taken }
 
@@ -33,7 +33,8 @@ pub record RunsOver {D : Type 0} (Serves : D → Tick → Message → Answer →
   pub counted : CountedAll result old.counts new.counts
   pub calls : new.counts.calls ≤ old.counts.calls + most_reads
 
--- the same of a desk that is there for this stream alone
+-- A run over a stream, from a desk that is there for this stream alone: what was read, told and written is of a single run over the bytes
+-- that came; how it ended is what a device has counted; and the reader was called so often at most.
 pub record RunsFrom {D : Type 0} (Serves : D → Tick → Message → Answer → D → Type 0) (first : D) (old new : Outside) (result : Result (Unit {0}) Failure) : Type 0 where
   pub leads : (last : D) × RunLeads Serves (devices_of first old) (devices_of last new) result
   pub counted : CountedAll result old.counts new.counts

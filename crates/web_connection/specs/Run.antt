@@ -85,7 +85,7 @@ pub record Finished {D : Type 0} (Serves : D → Tick → Message → Answer →
   pub taken : Adds old.taken written new.taken
   pub runs : Runs Serves old.desk ticks items written new.desk
 
--- one more item was acted on, and the front of its text was written
+-- an item more was acted on, and the front of its text was written
 pub record CutOff {D : Type 0} (Serves : D → Tick → Message → Answer → D → Type 0) (old new : Cursor D) : Type 0 where
   pub item : Item
   pub ticks : List Tick
@@ -160,7 +160,7 @@ abbrev pub devices_at : {R T D W : Type 0} → source.Ghosts R → clock.Ghosts 
 devices_at r t w reader ticks desk writer =
     record { left = r.left reader; calls = r.calls reader; told = t.told ticks; desk = desk; taken = w.taken writer }
 
--- the same with another desk among them
+-- the devices with another desk among them
 abbrev pub with_desk : {D E : Type 0} → Devices D → E → Devices E
 with_desk devices desk = record { left = devices.left; calls = devices.calls; told = devices.told; desk = desk; taken = devices.taken }
 
@@ -207,8 +207,8 @@ device_counts r t w reader ticks writer =
 abbrev pub most_reads : ℕ
 most_reads = 1000000
 
--- The same of a whole run. It ends with the failure of a device where that device failed, and no other one did; else no
--- device failed, and the limit is met only by 1,000,000 reads.
+-- How a whole run counts. It ends with the failure of a device where that device failed, and no other one did; else no device failed, and
+-- the limit is met only by 1,000,000 reads.
 abbrev pub CountedAll : Result (Unit {0}) Failure → Counts → Counts → Type 0
 CountedAll (Ok u) old new = (new.clock ≡ old.clock) × (new.output ≡ old.output) × (new.input ≡ old.input)
 CountedAll (Err failures.Clock) old new = (old.clock < new.clock) × (new.output ≡ old.output) × (new.input ≡ old.input)

@@ -67,7 +67,7 @@ loose_text_from f (Some s) = fit f s
 abbrev pub loose_text : Field → Data → Result (List ℕ) BodyFault
 loose_text f v = loose_text_from f (as_str v)
 
--- the same of a text that may not be empty
+-- a string of at most 254 bytes and with no control byte, which may not be empty
 abbrev pub text_from : Field → Option (List ℕ) → Result (List ℕ) BodyFault
 text_from f None = Err (fault f problems.Invalid)
 text_from f (Some s) = if length s == 0 then Err (fault f problems.Blank) else fit f s
@@ -156,6 +156,6 @@ abbrev pub price_mode_from : Field → Option PriceMode → Result PriceMode Bod
 price_mode_from f None = Err (fault f problems.Invalid)
 price_mode_from f (Some mode) = Ok mode
 
--- one of the words `none`, `set`, `subtract` and `percent`
+-- a word of these: `none`, `set`, `subtract` and `percent`
 abbrev pub price_mode : Field → Data → Result PriceMode BodyFault
 price_mode f v = price_mode_from f (option_and_then mode_named (as_str v))

@@ -22,7 +22,7 @@ abbrev pub ◌>>=◌ : {A B : Type 0} → Result A BodyFault → (A → Result B
 abbrev pub fault : Field → Problem → BodyFault
 fault f p = faults.Field (record { field = f; problem = p })
 
--- the same problem of that field
+-- a fault's problem, of that field
 abbrev pub fault_of : Field → BodyFault → BodyFault
 fault_of f (faults.Field x) = fault f x.problem
 fault_of f e = e
@@ -47,7 +47,7 @@ abbrev pub Gives : {X Y : Type 0} → (X → Y) → Result X ReadError → Resul
 Gives show (Ok x) read = read ≡ Ok (show x)
 Gives show (Err e) read = Fails e read
 
--- The same of a value that shows as it is.
+-- What a function returned, of a value that shows as it is, is what the reading gives, or there was no memory.
 abbrev pub Reads : {Y : Type 0} → Result Y ReadError → Result Y BodyFault → Type 0
 Reads result read = Gives (λ x. x) result read
 

@@ -24,7 +24,7 @@ abbrev pub ports_at : {R W : Type 0} → source.Ghosts R → drain.Ghosts W → 
 ports_at r w reader writer =
     record { left = r.left reader; taken = w.taken writer; calls = r.calls reader; input = r.failures reader; output = w.failures writer }
 
--- the same with the ticks that were told and the desk of the shop between them
+-- the devices of a feed: reader and writer with the ticks that were told and the desk of the shop between them
 abbrev pub devices : {D : Type 0} → Ports → List Tick → D → Devices D
 devices ports told house = record { left = ports.left; calls = ports.calls; told = Some told; desk = house; taken = ports.taken }
 

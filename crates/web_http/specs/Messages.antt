@@ -105,7 +105,7 @@ pub record HasNone (bytes : List ℕ) : Type 0 where
   pub message : (m : Message) (rest : List ℕ) → ¬ (Takes bytes m rest)
   pub fault : (f : FrameFault) → ¬ (Faults bytes f)
 
--- one of the words between the commas is `close`
+-- a word between the commas is `close`
 abbrev pub lists_close : List ℕ → Bool
 lists_close value = list_any (λ w. same_word (trim_ows w) (codes "close")) (slice_split (λ b. b == comma) value)
 

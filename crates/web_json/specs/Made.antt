@@ -19,6 +19,6 @@ MakesMembers result members change = IfOk result (λ m. members_view m.entries �
 abbrev pub AppendsText : {E Z : Type 0} → Result (Unit {0}) E → Vec ℕ Z → Vec ℕ Z → List ℕ → Type 0
 AppendsText result old new text = OnOk result (new.items ≡ old.items ++ text)
 
--- the same of JSON, which is written without spaces
+-- where JSON is appended, it stands behind what stood, written without spaces
 abbrev pub AppendsJson : {E Z : Type 0} → Result (Unit {0}) E → Vec ℕ Z → Vec ℕ Z → Data → Type 0
 AppendsJson result old new json = AppendsText result old new (compact_text json)

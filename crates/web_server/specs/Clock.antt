@@ -25,7 +25,7 @@ moment_shown (Err error) = moment_before (error_kind error)
 abbrev pub IsShown : (Result Duration Error → Type 0) → Option ℕ → Type 0
 IsShown shows moment = (shown : Result Duration Error) × shows shown × (moment_shown shown ≡ moment)
 
--- these bytes were given as a draw, or none were
+-- the bytes were given as a draw, or none were
 abbrev pub IsDrawn : (Option (List ℕ) → Type 0) → Option Draw → Type 0
 IsDrawn gives (Some draw) = gives (Some draw.bytes)
 IsDrawn gives None = gives None

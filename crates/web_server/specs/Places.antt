@@ -35,7 +35,7 @@ readiness_of since needs.Bytes crowd now = readiness_of_waiting since.began sinc
 readiness_of since needs.Room crowd now = readiness_of_sending since.unsent crowd now
 readiness_of since needs.Nothing crowd now = None
 
--- the same where it is known since when the caller waits; else it may not go
+-- how readily a caller goes where it is known since when it waits; else it may not go
 abbrev pub readiness_from : Option Since → Needs → Crowd → ℕ → Option ℕ
 readiness_from None needs crowd now = None
 readiness_from (Some since) needs crowd now = readiness_of since needs crowd now
@@ -64,7 +64,7 @@ abbrev pub without : Option ℕ → Callers → Callers
 without None callers = callers
 without (Some place) callers = with_place place None callers
 
--- One more comes: where a place is free nobody leaves, else whoever goes first, of all 128 places.
+-- A caller more comes: where a place is free nobody leaves, else whoever goes first, of all 128 places.
 pub record MakesRoom (ready : ℕ → Option ℕ) (old new : Callers) : Type 0 where
   pub free : (place : ℕ) → IsFree place old → new ≡ old
   pub full : ((place : ℕ) → IsFree place old → ⊥) → (first : Option ℕ) × GoesFirst ready 128 first × (new ≡ without first old)

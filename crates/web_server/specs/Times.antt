@@ -6,7 +6,7 @@ use Rattle.web_turns.specs.Halls.{Caller, Callers, at_place, place_needs}
 use Rattle.web_server.specs.declared.times.Crowd.{Crowd}
 use Rattle.web_server.specs.declared.times.Since.{Since}
 
--- one more, up to the greatest number of 64 bits
+-- a count and one more, up to the greatest number of 64 bits
 abbrev pub one_more : ℕ → ℕ
 one_more n = min (n + 1) (2 ^ 64 - 1)
 
@@ -64,7 +64,7 @@ unsent_after false unsent now = None
 abbrev pub since_behind : Since → Needs → Needs → Bool → ℕ → Since
 since_behind since before after unsent now = record { waits = now; began = began_after before after since.began now; unsent = unsent_after unsent since.unsent now }
 
--- the same at its place; where the conversation is over nothing is kept
+-- since when callers wait, with what is so of the caller at a place behind its turn; where its conversation is over nothing is kept
 abbrev pub noted_at : ℕ → Option Since → Needs → Needs → Bool → ℕ → List Since → List Since
 noted_at place found before needs.Nothing unsent now since = since
 noted_at place None before after unsent now since = since

@@ -21,7 +21,7 @@ Rearranges came old new (nexts.Comes ∷ others) =
 Rearranges came old new (nexts.Leaves place ∷ others) = Rearranges came (with_place place None old) new others
 Rearranges came old new (nexts.Turn place ∷ others) = ⊥
 
--- these callers came and some left, in some order, and nobody had a turn
+-- some callers came and some left, in some order, and nobody had a turn
 pub record Rearranged (came : List Begun) (old new : Callers) : Type 0 where
   pub order : List Next
   pub all : Rearranges came old new order
@@ -44,7 +44,8 @@ pub record Reseats (old new : Callers) (before left : ℕ) (shown seen : Option 
   pub hall : Rearranged came old new
   pub count : new.came + left ≤ old.came + before
 
--- the same of a deed in which callers have turns too
+-- What a deed of a house leaves in which callers have turns too: callers came whom the network let in, and some left; each who came was one
+-- of those who were to be let in still.
 pub record Hosts {D : Type 0} (Serves : D → Tick → Message → Answer → D → Type 0) (from to : Between D) (old new : Callers) (before left : ℕ) (shown seen : Option (List Begun)) : Type 0 where
   pub came : List Begun
   pub told : Adds shown came seen

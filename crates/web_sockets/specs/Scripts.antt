@@ -19,6 +19,6 @@ came_in zero left = cames.Later
 came_in (suc room) zero = cames.End
 came_in (suc room) (suc left) = cames.Bytes (min (suc room) (suc left))
 
--- the same of a read that may give at most so many, into a buffer of so many
+-- what a read gives that may give at most this much, into a buffer of that size, where so many bytes are left
 abbrev pub came_of : ℕ → ℕ → ℕ → Came
 came_of most size left = came_in (min most size) left

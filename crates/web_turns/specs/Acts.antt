@@ -36,6 +36,6 @@ pub record Between (D : Type 0) : Type 0 where
 abbrev pub between : {D : Type 0} → Option (List Tick) → D → Between D
 between told desk = record { told = told; desk = desk }
 
--- the same with another desk
+-- the ticks that the house was given till then, with another desk
 abbrev pub seen_at : {D E : Type 0} → Between D → E → Between E
 seen_at place desk = between place.told desk

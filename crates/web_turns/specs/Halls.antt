@@ -43,7 +43,7 @@ callers came places = record { came = came; places = places }
 abbrev pub at_place : ℕ → Callers → Option Caller
 at_place place now = slice_index_or now.places place None
 
--- the same with another one at that place
+-- callers with another one, or nobody, at that place
 abbrev pub with_place : ℕ → Option Caller → Callers → Callers
 with_place place whoever now = callers now.came (slice_set now.places place whoever)
 
@@ -67,7 +67,7 @@ pub record IsFree (place : ℕ) (now : Callers) : Type 0 where
   pub free : at_place place now ≡ None
   pub number : now.came < 18446744073709551615
 
--- one of the places, which is free, or none is
+-- a place that is free, or none is
 abbrev pub FindsFree : List (Option Caller) → Option ℕ → Type 0
 FindsFree places (Some place) = (place < length places) × (slice_index_or places place None ≡ None)
 FindsFree places None = (place : ℕ) → place < length places → slice_index_or places place None ≡ None → ⊥
@@ -110,7 +110,7 @@ abbrev pub LetsIn : List Begun → Callers → Callers → Type 0
 LetsIn [] old new = new ≡ old
 LetsIn (b ∷ bs) old new = (bs ≡ []) × ((new ≡ old) ⊎ ((place : ℕ) × IsFree place old × (new ≡ with_caller place (seat_begun b) old)))
 
--- one thing that happens: somebody comes, or has a turn, or leaves
+-- a single thing that happens: somebody comes, or has a turn, or leaves
 abbrev pub Does : {D : Type 0} → (D → Tick → Message → Answer → D → Type 0) → Between D → Between D → List Begun → Callers → Callers → Next → Type 0
 Does Serves from to came old new nexts.Comes = (to ≡ from) × LetsIn came old new
 Does Serves from to came old new (nexts.Turn place) = (came ≡ []) × TurnsAt Serves from to place old new
@@ -123,7 +123,7 @@ DoesAll {D} Serves from to came old new (next ∷ others) =
     (mid : Between D) × (amid : Callers) × (first : List Begun) × (later : List Begun) × (came ≡ first ++ later)
     × Does Serves from mid first old amid next × DoesAll Serves mid to later amid new others
 
--- these conversations were begun by some of those who came, in their order
+-- the conversations were begun by some of those who came, in their order
 abbrev pub AreAmong : List Seat → List Begun → Type 0
 AreAmong seats [] = seats ≡ []
 AreAmong seats (b ∷ bs) = AreAmong seats bs ⊎ ((rest : List Seat) × (seats ≡ seat_begun b ∷ rest) × AreAmong rest bs)
@@ -168,8 +168,9 @@ pub record Story : Type 0 where
 abbrev pub story : List Seat → List Seat → List Heard → Story
 story firsts lasts heard = record { firsts = firsts; lasts = lasts; heard = heard }
 
--- So many callers came: the acts lead from desk to desk, one after another, at the ticks that were given, and each is for one of them. Each
--- caller's conversation is the acts that are for it: they are those of its own bytes, in order, and what it was sent is the front of their texts.
+-- What holds when this many callers came: the acts lead from desk to desk, one after another, at the ticks that were given, and each is for
+-- a caller among them. Each caller's conversation is the acts that are for it: they are those of its own bytes, in order, and what it was
+-- sent is the front of their texts.
 pub record Hall {D : Type 0} (Serves : D → Tick → Message → Answer → D → Type 0) (came : ℕ) (from to : Between D) (all : Story) : Type 0 where
   pub acted : Acts Serves from.desk (acts_of all.heard) to.desk
   pub told : Adds from.told (ticks (acts_of all.heard)) to.told
@@ -183,7 +184,7 @@ pub record AreSeated (now : Callers) (lasts : List Seat) : Type 0 where
   pub here : (place : ℕ) (c : Caller) → at_place place now ≡ Some c → (c.number < now.came) × (slice_index_or lasts c.number nobody ≡ c.seat)
   pub apart : (i j : ℕ) (c d : Caller) → at_place i now ≡ Some c → at_place j now ≡ Some d → c.number ≡ d.number → i ≡ j
 
--- the same of a hall and who is in it now
+-- What holds of a hall and who is in it now: the acts lead on, and whoever is at a place is as far as the story has it.
 pub record Serving {D : Type 0} (Serves : D → Tick → Message → Answer → D → Type 0) (from to : Between D) (now : Callers) (all : Story) : Type 0 where
   pub hall : Hall Serves now.came from to all
   pub seated : AreSeated now all.lasts
@@ -203,7 +204,7 @@ pub record GoesOn {D : Type 0} (Serves : D → Tick → Message → Answer → D
   pub gone : (n : ℕ) → n < old.came → IsGone n old
       → IsGone n new × (slice_index_or lasts n nobody ≡ slice_index_or till.lasts n nobody) × (of n heard ≡ [])
 
--- the same, whatever happened till then; whoever came in is one of those who came
+-- whatever happened till then, the story goes on from it; whoever came in is one of those who came
 abbrev pub LeadsOn : {D : Type 0} → (D → Tick → Message → Answer → D → Type 0) → Between D → Between D → List Begun → Callers → Callers → Type 0
 LeadsOn {D} Serves from to came old new =
     (first : Between D) (till : Story) → Serving Serves first from old till → (on : GoesOn Serves first from to old new till) × AreAmong on.firsts came

@@ -73,7 +73,7 @@ pub record Replies {D : Type 0} (Serves : D → Tick → Message → Answer → 
 abbrev pub Moves : Seat → Seat → Type 0
 Moves old new = (first : Seat) (own : List Act) → Talks first own old → Talks first own new
 
--- One turn: some acts, and whatever conversation it was in goes on with them.
+-- A turn: some acts, and whatever conversation it was in goes on with them.
 pub record Turn {D : Type 0} (Serves : D → Tick → Message → Answer → D → Type 0) (from to : Between D) (old new : Seat) : Type 0 where
   pub acts : List Act
   pub acted : Acts Serves from.desk acts to.desk
