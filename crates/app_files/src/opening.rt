@@ -39,7 +39,7 @@ pub(crate) fn open_counted<O: Console, S: Alter, T: Drop>(
     }
 }
 
-/// The same, where nobody asks how many rows were read.
+/// Opens the shop in a file, where nobody asks how many rows were read.
 pub(crate) fn open_shop<O: Console, S: Alter, T: Drop>(
     rt: &O,
     alloc: Global,

@@ -6,10 +6,10 @@ use file_scan::Progress;
 use std::fmt;
 use web_cli::Console;
 
-// It is told each so many rows,
+// How many rows are read between two times that a terminal is told.
 const STEP: u64 = 10_000;
 
-// and of an opening from so many on, which take half a second and more.
+// From how many rows on a terminal is told of an opening: they take half a second and more.
 const LEAST: u64 = 50_000;
 
 // A count, with a comma before each three digits.

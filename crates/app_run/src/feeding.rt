@@ -31,7 +31,7 @@ pub fn feed<R: Source, W: Drain>(
     }
 }
 
-/// The same from the texts of the command line. Where one of them can't be read, nothing is read and nothing written.
+/// Runs `feed` by the texts of the command line. Where one of them can't be read, nothing is read and nothing written.
 pub fn feed_texts<R: Source, W: Drain>(
     alloc: Global,
     from: &str,

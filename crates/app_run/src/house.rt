@@ -1,4 +1,4 @@
-//! A stream of requests to a shop.
+//! Opens a shop in SQLite's memory, for a stream of requests to it.
 
 ghost use Rattle.std.specs.Prelude.{◌+◌, ◌≤◌};
 ghost use Rattle.web_connection.specs.Run.{CountedAll, device_counts, devices_at, most_reads};

@@ -114,7 +114,7 @@ pub fn open_store<S: Alter + Drop>(
     if_well(made, ended)
 }
 
-/// The same in SQLite's memory, which has no tables at first.
+/// Opens a fresh shop in SQLite's memory, which has no tables at first.
 pub fn open_memory(alloc: Global) -> Result<(SqlTables<MemStore>, Office<Counters>), AllocError>
     ensures { IfOk result
         (λ made. IsFreshShop over_memory made.0 made.1.organizer made.1.event made.1.state) }

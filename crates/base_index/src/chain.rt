@@ -266,7 +266,7 @@ fn first_of(blocks: &[Block], block: usize) -> u128
     block.at(0)
 }
 
-// One more stands before each block from this one on.
+// An entry more stands before each block from this one on.
 fn raise(starts: &mut Vec<usize>, from: usize)
     requires within { from ≤ length starts.old.items }
     requires few { (k : ℕ) → slice_index starts.old.items k ≤ most_listed }
@@ -278,7 +278,7 @@ fn raise(starts: &mut Vec<usize>, from: usize)
     }
 }
 
-// One fewer stands before each block from this one on.
+// An entry fewer stands before each block from this one on.
 fn lower(starts: &mut Vec<usize>, from: usize)
     requires { from ≤ length starts.old.items }
     ensures { starts.new.items
@@ -289,7 +289,7 @@ fn lower(starts: &mut Vec<usize>, from: usize)
     }
 }
 
-// So many blocks with no entries.
+// As many blocks as that, with no entries.
 fn empty_blocks(alloc: Global, count: usize) -> Result<Vec<Block>, AllocError>
     ensures { IfOk result (λ v. v.items ≡ replicate count []) }
 {

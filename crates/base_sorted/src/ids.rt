@@ -8,7 +8,7 @@ use crate::rows::{Row, place_of};
 use std::alloc::{AllocError, Global};
 use std::marker::Model;
 
-/// These ids in rising order, each once.
+/// Sorts ids in rising order, each once.
 pub fn sorted(ids: Vec<u64>) -> Vec<u64>
     ensures { result.items ≡ rising ids.items }
 {
@@ -36,7 +36,7 @@ impl Model for Ids {
 }
 
 impl Ids {
-    /// These ids in rising order, each once.
+    /// A set of these ids, in rising order, each once.
     pub fn sorted(ids: Vec<u64>) -> Self
         ensures { result ≡ rising ids.items }
     {

@@ -173,7 +173,7 @@ fn is_behind<T: Row>(rows: &[T], id: u64) -> bool
     }
 }
 
-// The same by halving.
+// Where the row of an id is, or would be, by halving.
 fn searched<T: Row>(rows: &[T], id: u64) -> Result<usize, usize>
     requires { AreInOrder T.key rows.now }
     ensures found { IfOk result (IsPlace T.key rows.now id) }

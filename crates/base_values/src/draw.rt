@@ -9,7 +9,7 @@ pub struct Draw {
 }
 
 impl Draw {
-    /// It is sixteen bytes.
+    /// A draw is sixteen bytes.
     pub fn known(self)
         ensures { IsDraw self }
     {

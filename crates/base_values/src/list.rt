@@ -21,7 +21,7 @@ impl<T> Model for List<T> {
 }
 
 impl<T> List<T> {
-    /// These values.
+    /// A list of these values.
     pub fn new(items: Vec<T>) -> Self
         ensures { result ≡ items.items }
     {

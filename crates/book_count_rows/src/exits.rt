@@ -8,8 +8,8 @@ use book_usage::Book;
 use model_rows::QuotaCount;
 use std::alloc::{AllocError, Global};
 
-/// Those of these counts that differ in how many tickets are out from what the book has, or whose quota it hasn't.
-/// Each costs a look-up of its quota.
+/// The counts among these that differ in how many tickets are out from what the book has, or whose quota it hasn't. Each costs a look-up of
+/// its quota.
 pub fn exits_that_differ<B: Book>(
     book: &B,
     alloc: Global,

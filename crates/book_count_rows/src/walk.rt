@@ -130,7 +130,7 @@ impl<'w, B: Book> Walk<'w, B> {
         }
     }
 
-    // The same of a quota that stood. Unless its products change, or whether it releases places, the book knows it.
+    // What is known of a quota that stood before. Unless its products change, or whether it releases places, the book knows its usage.
     fn known_by(&self, old: &Quota, quota: &Quota) -> Known
         requires { quota_at quota.now.id (B.state self.now.book.now).lists.catalogue
             ≡ Some old.now }
@@ -148,7 +148,7 @@ impl<'w, B: Book> Walk<'w, B> {
         }
     }
 
-    // The same of a quota as it stood. Where nothing that came due reaches it, it is used as before.
+    // What is known of a quota as it stood. Where nothing that came due reaches it, it is used as before.
     fn known_as(&self, quota: &Quota) -> Known
         requires { quota_at quota.now.id (B.state self.now.book.now).lists.catalogue
             ≡ Some quota.now }
@@ -244,7 +244,7 @@ fn quota_after<'c>(changes: &'c [Change], id: u64, before: Option<&'c Quota>) ->
     found
 }
 
-// The same after one change.
+// The quota of an id after a single change, by the one before it.
 fn quota_with<'c>(change: &'c Change, id: u64, before: Option<&'c Quota>) -> Option<&'c Quota>
     ensures { option_copied result ≡ quota_with id change.now (option_copied before.entry) }
 {

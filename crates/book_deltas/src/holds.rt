@@ -23,7 +23,7 @@ use book_usage::LookUps;
 use book_usage::rules::held_name;
 use model_rows::{CartPos, Change, Voucher};
 
-// One more, or one less, for the voucher of a name, if it stands.
+// Counts one more, or one less, for the voucher of a name, if it stands.
 fn turn_one(vouchers: &[Voucher], counts: &mut Vec<u64>, name: Option<u64>, up: bool)
     requires order { AreInOrder (λ v. v.id) vouchers.now }
     requires same { length counts.old.items ≡ length vouchers.now }

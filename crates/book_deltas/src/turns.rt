@@ -30,7 +30,7 @@ pub fn redeemed_in(store: &Store, redeems: &[u64], voucher: u64) -> u64
     }
 }
 
-/// One more, or one less.
+/// A count with one more, or one less.
 pub fn count_after_turn(count: u64, up: bool) -> u64
     ensures { result ≡ count_after_turn up count }
 {

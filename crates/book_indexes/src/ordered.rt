@@ -46,7 +46,7 @@ pub trait OrderedRows<T: Row + Drop> {
         ensures room { (table self.old).room ≤ (table self.new).room };
 }
 
-/// One row beside the other: a row that goes moves all behind it.
+/// Rows side by side: a row that goes moves all behind it.
 impl<T: Row + Drop> OrderedRows<T> for Rows<T> {
     ghost table = { λ t. t };
 

@@ -171,7 +171,7 @@ impl ChangeLog {
         self.before[place]
     }
 
-    /// One more change.
+    /// Adds a change.
     pub fn push(&mut self, change: Change) -> Result<(), AllocError>
         ensures ok { OnOk result (self.new ≡ self.old ++ change ∷ []) }
         ensures err { OnErr result (self.new ≡ self.old) }

@@ -59,7 +59,7 @@ impl KeyLog {
         self.before[place]
     }
 
-    /// One more key.
+    /// Adds a key.
     pub fn push(&mut self, key: u64) -> Result<(), AllocError>
         ensures ok { OnOk result (self.new ≡ self.old ++ key ∷ []) }
         ensures err { OnErr result (self.new ≡ self.old) }

@@ -75,7 +75,7 @@ fn add_rows<T: Put>(alloc: Global, rows: &[T], list: &mut Vec<Change>) -> Result
     Ok(())
 }
 
-// The same of rows that don't lie side by side.
+// Adds the changes that put these rows, which don't lie side by side.
 fn add_sparse<T: Put>(
     alloc: Global,
     rows: &Sparse<T>,

@@ -25,7 +25,7 @@ impl Dues for Recount {
             .collect(alloc)
     }
 
-    // It keeps no counts.
+    // A book that counts afresh keeps no counts.
     fn settle(&mut self, changes: Changes, counts: &CountRows, at: Moment) {
         let _ = counts;
         self.apply(changes, at);

@@ -236,7 +236,7 @@ fn add_entries(store: &Store, usages: &mut Vec<Usage>)
     }
 }
 
-// One more value, for which there is room.
+// Pushes a value, for which there is room.
 fn push_reserved<T: Drop>(kept: &mut Vec<T>, value: T)
     requires { length kept.old.items < vec_capacity kept.old }
     ensures items { kept.new.items ≡ kept.old.items ++ value ∷ [] }

@@ -18,7 +18,7 @@ pub trait Amount: Copy {
     fn none() -> Self
         ensures { result ≡ zero };
 
-    /// It with some more. One of 2^64, which no book reaches, is refused as a want of memory.
+    /// The amount with some more. A sum of 2^64, which no book reaches, is refused as a want of memory.
     fn with(self, more: Self) -> Result<Self, AllocError>
         ensures { IfOk result (λ new. new ≡ sum self more) };
 }

@@ -30,7 +30,7 @@ pub fn usage_of<B: Book>(book: &B, quota: &Quota, at: Moment) -> Usage
     usage_in::<B, Brand>(book, quota, at, Blank::new(1))
 }
 
-// The same, in a ledger of steps that nobody reads.
+// What uses a quota that stands, in a ledger of steps that nobody reads.
 fn usage_in<B: Book, L: Ledger>(book: &B, quota: &Quota, at: Moment, blank: Blank) -> Usage
     requires name { blank.name ≡ L.name }
     requires parts { blank.parts ≡ L.parts }

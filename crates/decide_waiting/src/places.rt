@@ -131,7 +131,7 @@ pub fn first_without_place(quotas: &[Quota], left: &[Option<u128>], product: Pro
     None
 }
 
-// One place less.
+// What is left, with a place less.
 fn one_less(left: Option<u128>) -> Option<u128>
     ensures { result ≡ one_less left }
 {

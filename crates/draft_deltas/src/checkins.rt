@@ -59,7 +59,7 @@ pub fn is_free_in(quota: &Quota, product: Product, out: bool) -> bool
     quota.has(product) && (quota.release_after_exit && out)
 }
 
-// One that is released, or none.
+// A usage with a ticket that is released, or none.
 fn exited(is: bool) -> Usage
     ensures { result ≡ record nothing { exited = once is } }
 {

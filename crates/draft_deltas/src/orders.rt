@@ -64,8 +64,8 @@ impl<'o> Share for OrderTurn<'o> {
     }
 }
 
-// So many places of an order, by its status, and so many that are released, where it is paid; and those that vouchers block
-// again, where the other one was in force and it isn't.
+// The usage of some places of an order, by its status, and of some that are released, where it is paid; and of those that vouchers block
+// again, where the other order was in force and this one isn't.
 fn order_counts(
     order: Option<&Order>,
     other: Option<&Order>,

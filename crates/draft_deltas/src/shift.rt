@@ -112,7 +112,7 @@ impl<'s> Share for Spots<'s> {
     }
 }
 
-// So many places in carts, or for which entries wait.
+// The usage of some places in carts, or for which entries wait.
 fn usage_of_places(waits: bool, count: u64) -> Usage
     ensures { result ≡ usage_of_places waits count }
 {

@@ -128,7 +128,7 @@ fn count_names(
     Ok(())
 }
 
-// One use in orders, with its discount, where an order is in force, and wasn't before.
+// A single use in orders, with its discount, where an order is in force, and wasn't before.
 fn used_since(force: bool, stood: bool, discount: Cents) -> Uses
     ensures { result ≡ used_since force stood 1 discount }
 {
@@ -139,7 +139,7 @@ fn used_since(force: bool, stood: bool, discount: Cents) -> Uses
     }
 }
 
-// One use in orders, with its discount.
+// A single use in orders, with its discount.
 fn one_use(discount: Cents) -> Uses
     ensures { result ≡ record { used = 1; held = 0; spent = discount } }
 {

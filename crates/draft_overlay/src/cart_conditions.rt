@@ -19,7 +19,7 @@ pub trait CartCondition {
         ensures { result ≡ passes self.now cart.now };
 }
 
-/// Those that are live and name the voucher.
+/// The cart positions that are live and name the voucher.
 #[derive(Drop)]
 pub struct Holds {
     pub at: Moment,
@@ -34,7 +34,7 @@ impl CartCondition for Holds {
     }
 }
 
-/// Those of them that are for a product of the quota.
+/// The cart positions that are live, name the voucher and are for a product of the quota.
 #[derive(Drop)]
 pub struct HoldsIn<'q> {
     pub at: Moment,

@@ -106,7 +106,7 @@ impl<'a, B: Book> Overlay<'a, B> {
         self.first_unchanged(code)
     }
 
-    // The same, where a change touches the book's first one.
+    // The least id of the book's vouchers with that code that no change touches, where a change touches the book's first one.
     fn first_unchanged(&self, code: &str) -> Option<u64>
         ensures { result ≡ first_unchanged code.now self.now }
     {
@@ -240,7 +240,7 @@ impl<'a, B: Book> Overlay<'a, B> {
         self.log.touches(Table::Positions)
     }
 
-    /// One more change, or a refusal where 2^32 stand or there is no memory: then the changes are as they were.
+    /// Adds a change, or refuses where 2^32 stand or there is no memory: then the changes are as they were.
     pub fn push(&mut self, change: Change) -> Result<(), AllocError>
         requires { IsSale change (rows_of self.old) }
         ensures ok { OnOk result (self.new ≡ log_with change self.old) }

@@ -25,7 +25,7 @@ fn nonce_key(alloc: Global, row: &Checkin) -> Result<Option<u64>, AllocError>
     Ok(Some(digest(text.as_str())))
 }
 
-// Those of all.
+// The digests of all check-ins with a nonce.
 fn nonce_keys(alloc: Global, rows: &[Checkin]) -> Result<Vec<u64>, AllocError>
     ensures { IfOk result (λ keys. keys.items ≡ filter_map nonce_key rows.now) }
 {

@@ -26,7 +26,8 @@ pub fn fit_tables_are_no_fault()
         → (e : OpenError) → IsCause db e → IsOfMachine e }
 {}
 
-/// So it is of a file that was read: none of 60, 61 and 62 by the first two rules has its cause.
+/// A file that was read is refused for want of memory or because the store fails: none of 60, 61 and 62 by the first two rules has its
+/// cause.
 pub fn readable_files_are_no_fault()
     ensures { (db : Database) → db.schema ≡ schema → IsReadable db
         → (e : OpenError) → IsCause db e → IsOfMachine e }

@@ -2,7 +2,7 @@
 
 /// What hears of each row that a query gives, as soon as it was taken. No clause says what it does with that.
 pub trait Progress {
-    /// One more row was taken.
+    /// Hears that a row more was taken.
     fn row(&mut self);
 }
 

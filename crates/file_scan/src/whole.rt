@@ -45,7 +45,7 @@ pub(crate) trait Whole: Drop {
             S.Store conn.old conn.new result };
 }
 
-/// One table's rows.
+/// The rows of a single table.
 impl<T: Loaded> Whole for Vec<T> {
     ghost is_in = { λ trees rows. HoldsTable T.as_row T.tree trees rows.items };
 
@@ -68,7 +68,7 @@ impl<T: Loaded> Whole for Vec<T> {
     }
 }
 
-/// One, and then the other.
+/// Reads the first, and then the second.
 pub(crate) fn read_both<S: Alter, A: Whole, B: Whole, P: Progress>(
     alloc: Global,
     conn: &mut Connection<S>,

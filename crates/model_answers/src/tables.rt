@@ -25,7 +25,7 @@ pub enum TablesError {
 /// Tables that hold the rows of an office and the answers that are kept, and know their house: its names and its tokens. What they
 /// promise they promise of all rows, answers and houses that they hold, where the store has returned what was written.
 pub trait Tables {
-    /// So far the store has returned what was written.
+    /// Until now the store has returned what was written.
     ghost sure: { Self → Type 0 };
 
     /// The tables hold these rows and these answers, the answers in some order.

@@ -41,7 +41,7 @@ impl Item {
     }
 }
 
-/// One kind of an item. Where it has no price, the item's price holds.
+/// A variation: a kind of an item. Where it has no price, the item's price holds.
 #[derive(Drop)]
 pub struct Variation {
     pub id: u64,
@@ -88,8 +88,8 @@ pub struct PricedVariation {
     pub price: Cents,
 }
 
-/// So many places, shared by some products. Where it has no size, it is unlimited. Where it releases them, a ticket that
-/// went out sets its place free.
+/// A quota: places that some products share. Where it has no size, it is unlimited. Where it releases them, a ticket that went out sets its
+/// place free.
 #[derive(Drop)]
 pub struct Quota {
     pub id: u64,

@@ -34,7 +34,7 @@ pub fn page_rows<T>(rows: &[T], number: u64) -> &[T]
     &rest[..rest.len().min(PAGE)]
 }
 
-/// The same of rows that come and go. Those before the page are passed one after another.
+/// The rows of a page, of rows that come and go. Those before the page are passed one after another.
 pub fn sparse_page_rows<'r, R: Row + Drop>(
     alloc: Global,
     rows: &'r Sparse<R>,

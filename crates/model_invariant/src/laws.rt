@@ -29,7 +29,7 @@ pub fn numbers_are_each_once()
         CountFrom 1 (by_positionid positions) ↔ AreEachOnce positions }
 {}
 
-/// Those who have gone out of a quota are among those who have paid for it. A quota that keeps its places has none of them.
+/// Whoever has gone out of a quota is among those who have paid for it. A quota that keeps its places has none of them.
 pub fn exited_are_paid()
     ensures paid { (lists : Lists) (at : ℕ) (quota : Quota) →
         (usage_of lists at quota).exited ≤ (usage_of lists at quota).paid }

@@ -66,7 +66,7 @@ impl Model for Changes {
 }
 
 impl Changes {
-    /// These changes, with these next ids.
+    /// Changes of this list, with these next ids.
     pub fn new(list: Vec<Change>, next: NextIds) -> Self
         ensures list { result.list ≡ list.items }
         ensures next { result.next ≡ next }

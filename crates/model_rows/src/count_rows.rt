@@ -44,7 +44,7 @@ impl Model for CountRows {
 }
 
 impl CountRows {
-    /// These counts.
+    /// Counts of these rows.
     pub fn new(
         quotas: Vec<QuotaCount>,
         exits: Vec<QuotaCount>,
@@ -64,21 +64,21 @@ impl CountRows {
         }
     }
 
-    /// Those of quotas, by id.
+    /// The counts of quotas, by id.
     pub fn quotas(&self) -> &[QuotaCount]
         ensures { result.now ≡ self.now.quotas }
     {
         self.quotas.as_slice()
     }
 
-    /// Those of the quotas that differ in how many tickets are out, by id.
+    /// The counts of the quotas that differ in how many tickets are out, by id.
     pub fn exits(&self) -> &[QuotaCount]
         ensures { result.now ≡ self.now.exits }
     {
         self.exits.as_slice()
     }
 
-    /// Those of vouchers, by id.
+    /// The counts of vouchers, by id.
     pub fn vouchers(&self) -> &[VoucherCount]
         ensures { result.now ≡ self.now.vouchers }
     {

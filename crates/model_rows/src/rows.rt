@@ -69,8 +69,8 @@ pub struct Order {
     pub expires: Moment,
 }
 
-/// One ticket of an order. `positionid` counts an order's positions from 1.
-/// `discount` is what its voucher took off the base price; without a voucher it is 0.
+/// A ticket of an order. `positionid` counts an order's positions from 1. `discount` is what its voucher took off the base price; without a
+/// voucher it is 0.
 #[derive(Drop)]
 pub struct OrderPos {
     pub id: u64,
@@ -121,8 +121,7 @@ pub enum CheckinKind {
     Exit,
 }
 
-/// One check-in of an order position by a list, at the moment `datetime`.
-/// A list has a nonce once for a position.
+/// A check-in of an order position by a list, at the moment `datetime`. A list has a nonce once for a position.
 #[derive(Drop)]
 pub struct Checkin {
     pub id: u64,

@@ -56,7 +56,7 @@ impl<B: Book> Office<B> {
         self.shown_page(alloc, resource, number, count, &page)
     }
 
-    // The same of rows that come and go: those before the page are passed one after another.
+    // Answers a page of rows that come and go: those before the page are passed one after another.
     fn sparse_page<R: ShownRow + Row + Drop>(
         &self,
         alloc: Global,

@@ -46,7 +46,7 @@ impl<B: Book> Office<B> {
         }))
     }
 
-    // One row.
+    // Answers with a single row.
     pub(crate) fn one(
         &self,
         alloc: Global,

@@ -37,7 +37,7 @@ pub fn repeats_are_told_again()
     ensures { (words : Reply → Response) (t : TwoArrivals) → ToldAgain words t }
 {}
 
-/// One that comes when a day has passed, and no other request with its key between, is executed anew.
+/// A request that comes when a day has passed, and no other request with its key between, is executed anew.
 pub fn after_a_day_it_is_executed_anew()
     ensures { (t : TwoArrivals) → ExecutedAnew t }
 {}

@@ -27,7 +27,7 @@ pub(crate) struct Entries {
     pub inside: u64,
 }
 
-/// Those of an item.
+/// The entries of an item.
 #[derive(Clone, Copy, PartialEq, Eq)]
 pub(crate) struct ItemEntries {
     pub item: u64,

@@ -17,7 +17,7 @@ pub(crate) struct Floor<'a> {
     told: Vec<Vec<u8>>,
 }
 
-// Those who are to come, the last of them first.
+// Whoever is to come, the last of them first.
 fn comers<'a>(alloc: Global, guests: &'a [Guest<'a>]) -> Result<Vec<Script<'a>>, AllocError> {
     let mut all = Vec::new(alloc);
     for guest in guests.iter().rev() {
@@ -31,7 +31,7 @@ fn comers<'a>(alloc: Global, guests: &'a [Guest<'a>]) -> Result<Vec<Script<'a>>,
     Ok(all)
 }
 
-// So many texts without a byte.
+// As many texts without a byte.
 fn empty_texts(alloc: Global, count: usize) -> Result<Vec<Vec<u8>>, AllocError> {
     let mut all = Vec::new(alloc);
     for _ in 0..count {

@@ -6,7 +6,7 @@ ghost use Rattle.tests_callers.specs.Merges.{AddsMerges, AreMerges};
 use std::alloc::{AllocError, Global};
 use web_turns::Next;
 
-/// One list behind another.
+/// Joins a list behind another.
 pub(crate) fn joined(alloc: Global, one: &[Next], other: &[Next]) -> Result<Vec<Next>, AllocError>
     ensures { IfOk result (λ all. all.items ≡ one.now ++ other.now) }
 {

@@ -29,7 +29,7 @@ fn go_on<L: Ledger, M: Ledger, T: Ticks, D: Desk>(
 }
 
 impl Party<'_> {
-    // The same with a ledger for each count of the page.
+    // Serves the callers in this order, with a ledger for each count of the page.
     fn serve_with<L: Ledger, M: Ledger, T: Ticks, D: Desk>(
         &self,
         alloc: Global,

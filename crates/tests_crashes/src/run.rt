@@ -51,7 +51,7 @@ fn do_with<S: Alter + Drop, F: Opens<Connection<S>>, A: Acts>(
     }
 }
 
-/// The same on disks in memory.
+/// Does a deed on disks in memory.
 pub(crate) fn do_at<A: Acts>(
     alloc: Global,
     acts: &A,

@@ -204,7 +204,7 @@ impl<A: Acts> Trial<'_, A> {
         Err(TrialError::Endless)
     }
 
-    // The same, where nothing was looked at yet.
+    // Looks at a stop at each call, where nothing was looked at yet.
     fn each_call(&self, alloc: Global, how: &How) -> Result<Found, TrialError> {
         let mut seen = Vec::new(alloc);
         self.each_call_with(alloc, &mut seen, how)

@@ -36,7 +36,7 @@ pub enum Route {
     Redeem,
 }
 
-/// One more route.
+/// Adds a route.
 fn add(router: &mut Router<Route>, text: &str, route: Route) -> Result<(), InsertError>
     ensures { OnOk result (router.new ≡ with_route text.now route router.old) }
 {

@@ -30,8 +30,8 @@ pub fn streams_are_told_once<T: Tables>()
         × IsOf tables house new.desk × HasList tables (words_of house) new.desk p es }
 {}
 
-/// The same of a shop that is running: whatever a crash leaves of it then is the shop as it is, or with one write carried out
-/// that was answered 503 since the last one that was executed.
+/// A stream to a shop that is running: whatever a crash leaves of it then is the shop as it is, or with one write carried out that was
+/// answered 503 since the last one that was executed.
 pub fn streams_run_on<T: Tables>()
     ensures { (house : House) (r : Running) (old new : Devices (DeskView T))
         (result : Result (Unit {0}) Failure) → let tables = trait_meaning T.Tables in

@@ -30,8 +30,8 @@ pub fn callers_are_told_once<T: Tables, K: Ticks>()
         × IsOf tables house new.desk × HasList tables (words_of house) new.desk p es }
 {}
 
-/// The same of a shop that is running: whatever a crash leaves of it at the end is the shop as it is, or with one write carried out that was
-/// answered 503 since the last one that was executed.
+/// Whatever callers send to a shop that is running: what a crash leaves of it at the end is the shop as it is, or with one write carried
+/// out that was answered 503 since the last one that was executed.
 pub fn callers_run_on<T: Tables, K: Ticks>()
     ensures { (house : House) (r : Running) (came : ℕ) (old new : Between (DeskView T))
         (all : Story) → let tables = trait_meaning T.Tables in
@@ -54,8 +54,9 @@ pub fn callers_take_nothing_too_much<T: Tables, K: Ticks>()
         × IsOf tables house new.desk × HasShop tables new.desk w × IsSound w.state }
 {}
 
-/// The same as a history, which may have begun long before, with crashes in it: each message that was acted on is an event behind those before
-/// it, an arrival with what it was answered, or without an answer; and the shop is running as these events leave it.
+/// Whatever callers send goes on with a history, which may have begun long before, with crashes in it: each message that was acted on is an
+/// event behind those before it, an arrival with what it was answered, or without an answer; and the shop is running as these events leave
+/// it.
 pub fn callers_go_on_with_a_history<T: Tables, K: Ticks>()
     ensures { (house : House) (begun q : Running) (es : List Event) (came : ℕ)
         (old new : Between (DeskView T)) (all : Story) → let tables = trait_meaning T.Tables in

@@ -24,7 +24,7 @@ pub struct Room {
     pub(crate) piece: Piece,
 }
 
-/// So many bytes of 0, as room for what a read gives.
+/// As many bytes of 0, as room for what a read gives.
 pub fn blank(alloc: Global, size: usize) -> Result<Vec<u8>, AllocError>
     ensures { IfOk result (λ v. v.items ≡ replicate size 0) }
 {

@@ -44,7 +44,7 @@ impl From<BodyFault> for ReadError {
 }
 
 impl BodyFault {
-    /// The same problem of that field, as a list names what is wrong with its entries.
+    /// A fault's problem, of that field, as a list names what is wrong with its entries.
     pub fn of(self, field: Field) -> Self
         ensures { result ≡ fault_of field self }
     {

@@ -45,7 +45,7 @@ impl<T: Tables + Drop, B: Book + Drop> ShopDesk<T, B> {
         Ok(ShopDesk::with_words(tables, office, words))
     }
 
-    /// The same where the words of its answers were made before.
+    /// The desk of an office, where the words of its answers were made before.
     pub fn with_words(tables: T, office: Office<B>, words: HouseWords) -> Self
         ensures { result ≡ desk_with tables words.organizer words.event office.state }
     {

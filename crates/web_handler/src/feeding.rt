@@ -17,7 +17,7 @@ use std::sync::ledger::{Blank, Ledger};
 use web_cli::{FeedTicks, Pace};
 use web_connection::Failure;
 
-// The same as `feed_office`, with a ledger for the failures of its ticks.
+// Feeds an office as `feed_office` does, with a ledger for the failures of its ticks.
 fn feed_with<P: Pace, E: Ledger, T: Tables + Drop, B: Dues + Drop, R: Source, W: Drain>(
     alloc: Global,
     tables: T,

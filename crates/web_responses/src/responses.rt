@@ -28,7 +28,7 @@ pub(crate) fn response(
     })
 }
 
-/// The same with no methods.
+/// A response with this value as its body, and no methods.
 pub(crate) fn value_response(
     alloc: Global,
     status: StatusCode,

@@ -8,7 +8,7 @@ use model_commands::Kind;
 /// Refusals by number, of one kind of request.
 #[derive(Drop)]
 pub(crate) struct KindRefusals {
-    /// Those which say that what the path names isn't there.
+    /// The refusals which say that what the path names isn't there.
     pub(crate) missing: &'static [u8],
     /// The others, in the order of the tests.
     pub(crate) others: &'static [u8],

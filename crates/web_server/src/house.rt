@@ -115,7 +115,7 @@ impl<'a, R: Clock + System + Console, E: Ends> House<'a, R, E> {
         }
     }
 
-    // The same crowd with whoever is at a place.
+    // A crowd with whoever is at a place.
     fn crowd_at(&self, place: usize, crowd: Crowd) -> Crowd
         ensures { result ≡ crowd_at (slice_get self.now.since.items place)
             (place_needs (at_place place self.now.hall)) crowd }

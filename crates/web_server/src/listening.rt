@@ -89,7 +89,8 @@ pub fn serve_at<R: Clock + System + Console, E: Ends, N: Network<E>, D: Desk + A
     }
 }
 
-/// The same over the system's network. Faults: 81 and 6 too where it can't be opened, and then nothing is said.
+/// Listens where the line says, over the system's network, says so, and answers callers. Faults: 81 and 6 too where the network can't be
+/// opened, and then nothing is said.
 pub fn serve_street<
     R: Net<Listener = TcpListener, Stream = TcpStream> + Clock + System + Console,
     D: Desk + Attended,

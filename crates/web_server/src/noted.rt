@@ -35,7 +35,7 @@ impl<'a, R, D: Desk> Model for Noted<'a, R, D> {
 }
 
 impl<'a, R, D: Desk> Noted<'a, R, D> {
-    /// The same desk, whose requests are told of in a log.
+    /// A desk whose requests are told of in a log.
     pub fn new(log: &'a Log<'a, R>, desk: D) -> Self
         ensures { result ≡ desk }
     {

@@ -66,7 +66,7 @@ fn read_away(
 }
 
 impl Partings {
-    /// So many places, and no connection at any.
+    /// As many places, and no connection at any.
     pub(crate) fn new(alloc: Global, count: usize) -> Result<Partings, AllocError> {
         let mut places = Vec::new(alloc);
         for _ in 0..count {

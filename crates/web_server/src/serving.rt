@@ -129,7 +129,7 @@ fn hear_all<
     }
 }
 
-// One round: hears what happened, and lets in who is at the door.
+// A round: hears what happened, and lets in who is at the door.
 #[tactic(auto, using(crate::proofs::VisitLemmas::happened_none))]
 fn serve_round<
     R: Clock + System + Console,
@@ -204,7 +204,7 @@ fn serve_rounds<
     Ok(())
 }
 
-// The same with room for events and for what one read gives.
+// Serves rounds, with room for what one read gives.
 #[tactic(auto, using(crate::proofs::VisitLemmas::rounds_end, crate::proofs::VisitLemmas::happened_none))]
 fn serve_house<
     R: Clock + System + Console,
@@ -236,7 +236,7 @@ fn serve_house<
     serve_rounds(alloc, watch, network, house, &mut piece, page, ticks, desk)
 }
 
-// The same with a ledger for each count of the page.
+// Serves rounds, with a ledger for each count of the page on which answers are written.
 fn serve_with<
     R: Clock + System + Console,
     E: Ends,

@@ -47,7 +47,7 @@ impl Crowd {
         }
     }
 
-    /// The same with one caller more. One who has an answer underway is in neither group.
+    /// A crowd with one caller more. Whoever has an answer underway is in neither group.
     pub(crate) fn with(self, since: Since, needs: Needs) -> Crowd
         ensures { result ≡ crowd_with since needs self }
     {
@@ -97,7 +97,7 @@ impl Since {
         }
     }
 
-    /// The same behind a turn. Whoever waited for bytes, and does still, is within a request.
+    /// Since when a caller waits behind a turn. Whoever waited for bytes, and does still, is within a request.
     pub(crate) fn behind(self, before: Needs, after: Needs, unsent: bool, now: u64) -> Since
         ensures { result ≡ since_behind self before after unsent now }
     {
@@ -159,7 +159,7 @@ impl Since {
     }
 }
 
-// The same of one who waits that long, beyond a grace, which so much is added to.
+// How readily whoever has waited that long goes: not at all within a grace, else the longer the more, with so much added.
 fn beyond(grace: u64, more: u64, long: u64) -> Option<u64>
     ensures { result ≡ beyond grace more long }
 {

@@ -30,7 +30,7 @@ impl<E: Ends> Model for Hall<E> {
     ghost view = { λ h. callers h.came h.places.items };
 }
 
-// So many places, each of them free.
+// As many places, each of them free.
 fn free_places<E: Ends>(alloc: Global, count: usize) -> Result<Vec<Place<E>>, AllocError>
     ensures { IfOk result (λ places. places.items ≡ replicate count None) }
 {
@@ -117,7 +117,7 @@ impl<E: Ends> Hall<E> {
         }
     }
 
-    /// One more caller comes in, to a place that is free.
+    /// A caller comes in, to a place that is free.
     pub fn let_in(&mut self, alloc: Global, place: usize, ends: E) -> Result<(), AllocError>
         requires { IsFree place self.old }
         ensures come { OnOk result
@@ -131,7 +131,7 @@ impl<E: Ends> Hall<E> {
         Ok(())
     }
 
-    /// One turn of whoever is at a place.
+    /// A turn of whoever is at a place.
     pub fn turn<L: Ledger, M: Ledger, T: Ticks, D: Desk>(
         &mut self,
         alloc: Global,

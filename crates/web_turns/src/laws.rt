@@ -18,7 +18,7 @@ pub fn callers_go_on<T: Ticks, D: Desk>()
         → LeadsOn (AtTick T.reads D.serves) from to came old new }
 {}
 
-/// The same of a hall from its opening on: of all who came each has its own acts.
+/// From the opening of a hall on: of all who came each has its own acts.
 pub fn each_has_its_own<T: Ticks, D: Desk>()
     ensures { (from to : Between D) (came : List Begun) (count : ℕ) (now : Callers)
         (order : List Next) → DoesAll (AtTick T.reads D.serves) from to came

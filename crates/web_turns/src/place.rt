@@ -108,7 +108,7 @@ impl<E: Ends> Place<E> {
         Ok(())
     }
 
-    /// One turn of whoever is here.
+    /// A turn of whoever is here.
     pub fn turn<L: Ledger, M: Ledger, T: Ticks, D: Desk>(
         &mut self,
         alloc: Global,

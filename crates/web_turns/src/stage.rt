@@ -1,4 +1,4 @@
-//! How far a conversation is.
+//! How far a conversation is, and what its next turn needs.
 
 /// How far a conversation is.
 #[derive(Clone, Copy, Drop, PartialEq, Eq)]

@@ -253,9 +253,9 @@ impl<E: Ends> Talk<E> {
         }
     }
 
-    /// One turn, with a piece to read into and a page to write an answer on: what is left of an answer is sent; where nothing is left, it reads
-    /// once, answers one message, and sends what is taken of its answer. Then it waits for what it needs. Where that fails, or the sending, it
-    /// won't be brought more.
+    /// A turn, with a piece to read into and a page to write an answer on: what is left of an answer is sent; where nothing is left, it
+    /// reads once, answers one message, and sends what is taken of its answer. Then it waits for what it needs. Where that fails, or the
+    /// sending, it won't be brought more.
     pub fn turn<L: Ledger, M: Ledger, T: Ticks, D: Desk>(
         &mut self,
         alloc: Global,

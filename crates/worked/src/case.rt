@@ -133,7 +133,7 @@ pub(crate) fn answer_case<S: Answers>(
     Ok(shown)
 }
 
-/// The same where a box office of its own answers.
+/// Answers a case by a box office of its own.
 pub(crate) fn answered(alloc: Global, case: &[u8], most: usize) -> anyhow::Result<Vec<u8>> {
     answer_case(alloc, case, most, &mut Fresh)
 }

@@ -39,7 +39,7 @@ fn failing_reads(rt: &HostRuntime, line: &[String], requests: &[u8], full: &[u8]
     (0, false)
 }
 
-// The same for each call of the writer.
+// Fails each call of the writer in turn. How many runs failed, and whether each broke off as it should.
 fn failing_writes(
     rt: &HostRuntime,
     line: &[String],

@@ -101,7 +101,7 @@ fn exported<A: Ledger, B: Ledger>(
     }
 }
 
-// The same.
+// Exports to a writer that takes so many bytes.
 fn export(alloc: Global, connection: &mut Connection<MemStore>, most: usize) -> Came {
     exported::<Brand, Brand>(alloc, connection, most, Blank::new(1), Blank::new(1))
 }

@@ -14,7 +14,7 @@ pub struct FailingReader<'a> {
 }
 
 impl<'a> FailingReader<'a> {
-    /// These bytes, where so many calls are well and the next one fails.
+    /// A reader of these bytes, of which so many calls are well and the next one fails.
     pub fn new(rest: &'a [u8], calls: usize) -> Self
         ensures rest { result.rest.now ≡ rest.now }
         ensures calls { result.calls ≡ calls }

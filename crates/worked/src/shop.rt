@@ -42,7 +42,7 @@ fn answer_at<K: Desk>(alloc: Global, case: &[u8], desk: &mut K) -> anyhow::Resul
     told
 }
 
-// The same, and the desk's tables.
+// How a case ends and what is written, and the tables of the desk that answers it.
 fn answer_shop<T: Tables + Drop, B: Dues + Drop>(
     alloc: Global,
     case: &[u8],

@@ -139,7 +139,7 @@ pub(crate) fn words(alloc: Global, line: &str) -> Result<Vec<String>, AllocError
     Ok(all)
 }
 
-// The same as `run_line`, with a ledger for each count of the devices.
+// Runs a line as `run_line` does, with a ledger for each count of the devices.
 fn run_line_with<A: Ledger, B: Ledger, C: Ledger, D: Ledger, R: Read + Drop>(
     rt: &HostRuntime,
     words: &[String],

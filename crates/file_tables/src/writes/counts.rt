@@ -65,7 +65,7 @@ fn write_exit<S: Alter>(tx: &mut Transaction<'_, S>, count: &QuotaCount) -> Resu
     file_writes::put(tx, &row)
 }
 
-// The same of each of these counts.
+// Puts how many tickets are out of the quota of each of these counts.
 fn write_exits<S: Alter>(tx: &mut Transaction<'_, S>, counts: &[QuotaCount]) -> Result<(), RowError>
     ensures { WritesInside S.Store tx.old tx.new (Changes (each put_exit counts.now)) result }
 {
