@@ -1,5 +1,5 @@
 -- Going back in a log from place to place of one row.
-use Rattle.std.proofs.Common.{◌≡◌, ℕ, zero, suc, ◌+◌, ◌-◌, ◌<◌, ◌≤◌, Bool, true, false, ◌&&◌, eqb, List, [], ◌∷◌, length, take, get_or, Some, None, Option, inl, inr, refl, sym, ap, ap₂, ◌∙◌, subst, arith}
+use Rattle.std.proofs.Common.{◌≡◌, ℕ, zero, suc, ◌+◌, ◌-◌, ◌<◌, ◌≤◌, Bool, true, false, ◌&&◌, eqb, List, length, take, get_or, Some, None, Option, inl, inr, refl, sym, ap, ap₂, ◌∙◌, subst, arith}
 use Rattle.std.specs.Prelude.{if◌then◌else◌}
 use Rattle.std.specs.Option.{IfSome}
 use Rattle.std.proofs.lemmas.List.{take_more, length-take-le, get_or-take}
@@ -58,12 +58,6 @@ same_ids a b c d same = elim (eqb_tells a b) [
 ]
 
 module _ (table id : ℕ) (log : List Change) (count : ℕ) where
-  }
-    where
-      all_taken : (l : List Change) → take (length l) l ≡ l
-      all_taken [] = refl
-      all_taken (c ∷ l) = ap (λ (r : List Change). c ∷ r) (all_taken l)
-
   -- it is a place of the log
   pub later_within : (place : ℕ) → IsLater table id log count (Some place) → place < length log
   later_within place later = omega (arith, below (touches table id) log later.front (Some place) later.within later.is, later.within)

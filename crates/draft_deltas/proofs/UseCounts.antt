@@ -31,8 +31,6 @@ same_more f f' g g' old new same same' is = record {
   on = is.on;
 }
 
-}
-
 -- those of an order's purchases, one after another
 since_more : (now before : Bool) (n m : ℕ) (u : Uses) (named : Bool) (cents : ℕ) → (if named then plus_uses (plus_uses u (used_since now before n m)) (used_since now before 1 cents) else plus_uses u (used_since now before n m)) ≡ plus_uses u (used_since now before (n + (if named then 1 else 0)) (m + (if named then cents else 0)))
 since_more now before n m u named cents = by_turn (now && not before) named
