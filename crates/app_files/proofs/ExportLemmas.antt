@@ -46,8 +46,10 @@ shelf_counts (faults.Column line at) n h = refl
 shelf_counts faults.Unwritten n h = absurd (cc)
 shelf_counts faults.TooManyLines n h = refl
 shelf_counts faults.File n h = refl
+shelf_counts faults.Linked n h = refl
+shelf_counts faults.CsvFile n h = refl
 shelf_counts faults.Listen n h = refl
-shelf_counts faults.Argument n h = refl
+shelf_counts (faults.Argument argument) n h = refl
 shelf_counts (faults.Run failure) n h = refl
 
 pub missing_counts : (stood : List ℕ → Bool → Type 0) (refuses : List ℕ → RunFault → Type 0) (file : List ℕ) (f : RunFault) (n : ℕ) → IsMissing stood refuses file f → CountsCut f n n

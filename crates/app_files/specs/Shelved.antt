@@ -1,5 +1,5 @@
 -- What becomes of a command on a file that is known by its name.
-use Rattle.std.specs.Prelude.{◌≡◌, ◌⊎◌, ℕ, Bool, true, false, List, Result, Err, IsTrue}
+use Rattle.std.specs.Prelude.{◌≡◌, ◌⊎◌, ℕ, Bool, true, false, List, Result, Err, IfErr, IsTrue}
 use Rattle.sqlite_trees.specs.declared.store.Store.{Ghosts}
 use Rattle.sqlite.specs.Held.{state}
 use Rattle.sqlite.specs.declared.connection.Connection.{Connection}
@@ -7,13 +7,24 @@ use Rattle.web_cli.specs.declared.fault.RunFault.{RunFault}
 use Rattle.web_cli.specs.declared.fault.RunFault.TheVariants as faults
 use Rattle.app_files.specs.Came.{Coming}
 
--- the file isn't there, stands already, can't be opened or is no database; the store failed; or there is no memory
+-- the file isn't there, stands already, can't be opened, has a second name or is no database; the store failed; or there is no memory
 abbrev pub is_shelf_fault : RunFault → Bool
 is_shelf_fault faults.Memory = true
 is_shelf_fault faults.NotAShop = true
 is_shelf_fault faults.Store = true
 is_shelf_fault faults.File = true
+is_shelf_fault faults.Linked = true
 is_shelf_fault _ = false
+
+-- a voucher file can't be read; or there is no memory
+abbrev pub is_csv_fault : RunFault → Bool
+is_csv_fault faults.Memory = true
+is_csv_fault faults.CsvFile = true
+is_csv_fault _ = false
+
+-- what is known of the bytes of the voucher file of this name; and where there are none, the fault is that file's
+abbrev pub IsSource : (List ℕ → Result (List ℕ) RunFault → Type 0) → List ℕ → Result (List ℕ) RunFault → Type 0
+IsSource held csv source = held csv source × IfErr source (λ fault. IsTrue (is_csv_fault fault))
 
 -- what is known of a connection to the file of this name, where it was told whether there was one
 abbrev pub IsGiven : {S : Type 0} → (List ℕ → Bool → Type 0) → (List ℕ → Connection S → Type 0) → Bool → List ℕ → Connection S → Type 0

@@ -111,7 +111,7 @@ impl<
     ghost use Rattle.app_files.specs.Imported.{IsOpenedAndImported};
     ghost use Rattle.app_files.specs.Asked.{TellsOf};
     ghost use Rattle.app_files.specs.Served.{IsOpenedAndServed};
-    ghost use Rattle.app_files.specs.Shelved.{IsGiven, IsMissing, IsShelved, OverFile, OverNewFile};
+    ghost use Rattle.app_files.specs.Shelved.{IsGiven, IsMissing, IsShelved, IsSource, OverFile, OverNewFile};
     ghost use Rattle.app_files.specs.Stored.{stored_meaning};
     ghost use Rattle.app_files.specs.Worked.{IsOpenedAndWorked};
 
@@ -140,9 +140,10 @@ impl<
         outcome };
 
     ghost imported = { λ file csv outcome. OverFile S.Store F.stood F.gives F.refuses
-        (λ old left came. (source : Result _ RunFault) × F.held csv source × OrUnopened S.Store
-        (IsOpenedAndImported (IsRead R.shows R.gives) S.Store (stored_meaning S.Store) source)
-        old left came) file outcome };
+        (λ old left came. (source : Result _ RunFault) × IsSource F.held csv source
+        × OrUnopened S.Store
+        (IsOpenedAndImported (IsRead R.shows R.gives) S.Store (stored_meaning S.Store) source) old
+        left came) file outcome };
 
     fn make(
         &self,

@@ -2,7 +2,7 @@
 
 ghost use Rattle.std.specs.Prelude.{ℕ, Bool, List, Result, IfOk, IfErr};
 ghost use Rattle.web_cli.specs.declared.fault.RunFault.{RunFault};
-ghost use Rattle.app_files.specs.Shelved.{IsRefused};
+ghost use Rattle.app_files.specs.Shelved.{IsRefused, IsSource};
 
 use base_values::Body;
 use web_cli::RunFault;
@@ -13,7 +13,7 @@ pub trait Shelf<C> {
     // what is known where it is told whether there is a file of this name
     ghost stood: { List ℕ → Bool → Type 0 };
 
-    // what is known of the bytes of the file of this name, or of why they can't be had
+    // what is known of the bytes of the voucher file of this name, or of why they can't be had
     ghost held: { List ℕ → Result (List ℕ) RunFault → Type 0 };
 
     // what is known of a connection to the file of this name
@@ -26,15 +26,15 @@ pub trait Shelf<C> {
     fn stands(&self, file: &str) -> bool
         ensures { stood file.now result };
 
-    /// A connection to the file of this name, which is made where there is none. Faults: 80 where it can't be opened, 60 where it is no
-    /// database, 63 and 6.
+    /// A connection to the file of this name, which is made where there is none. Faults: 80 where it can't be opened or has a second name,
+    /// 60 where it is no database, 63 and 6.
     fn open(&self, file: &str) -> Result<C, RunFault>
         ensures given { IfOk result (λ connection. gives file.now connection) }
         ensures refused { IfErr result (λ fault. IsRefused refuses file.now fault) };
 
-    /// The bytes of the file of this name. Faults: 80 where it can't be read, and 6.
+    /// The bytes of the voucher file of this name. Faults: 80 where it can't be read, as that of this file, and 6.
     fn bytes(&self, file: &str) -> Result<Body, RunFault>
-        ensures { held file.now result };
+        ensures { IsSource held file.now result };
 
     /// Closes a connection. What was committed stands in the file and its log, also where that fails.
     fn close(&self, connection: C);

@@ -1,5 +1,5 @@
 -- What `feed` does.
-use Rattle.std.specs.Prelude.{◌≡◌, ◌⊎◌, ℕ, Option, Some, None, Result, Err}
+use Rattle.std.specs.Prelude.{◌≡◌, ◌⊎◌, ℕ, Result, Ok, Err}
 use Rattle.web_connection.specs.declared.failure.Failure.{Failure}
 use Rattle.web_connection.specs.declared.failure.Failure.TheVariants as failures
 use Rattle.base_devices.specs.declared.device.Source as source
@@ -7,6 +7,7 @@ use Rattle.base_devices.specs.declared.device.Drain as drain
 use Rattle.web_handler.specs.Fed.{FeedsDesk, Ports, ports_at}
 use Rattle.app_run.specs.Fresh.{IsFresh}
 use Rattle.app_run.specs.Stored.{MemoryDesk, in_memory}
+use Rattle.web_cli.specs.declared.argument.Argument.{Argument}
 use Rattle.web_cli.specs.declared.fault.RunFault.{RunFault}
 use Rattle.web_cli.specs.declared.fault.RunFault.TheVariants as faults
 use Rattle.web_cli.specs.Faults.{as_fault}
@@ -22,7 +23,7 @@ Feeds from step old new result =
     ((first : MemoryDesk) × IsFresh in_memory first × FeedsDesk in_memory first from step old new result)
     ⊎ ((result ≡ Err failures.Memory) × (new ≡ old))
 
--- a value that can't be read is found before anything is read or written
-abbrev pub FeedsTexts : Option (ℕ × ℕ) → Ports → Ports → Result (Unit {0}) RunFault → Type 0
-FeedsTexts None old new result = (result ≡ Err faults.Argument) × (new ≡ old)
-FeedsTexts (Some (from, step)) old new result = (run : Result (Unit {0}) Failure) × Feeds from step old new run × (result ≡ as_fault run)
+-- a value that can't be read is found before anything is read or written, and is named
+abbrev pub FeedsTexts : Result (ℕ × ℕ) Argument → Ports → Ports → Result (Unit {0}) RunFault → Type 0
+FeedsTexts (Err argument) old new result = (result ≡ Err (faults.Argument argument)) × (new ≡ old)
+FeedsTexts (Ok (from, step)) old new result = (run : Result (Unit {0}) Failure) × Feeds from step old new run × (result ≡ as_fault run)

@@ -9,11 +9,10 @@ use Rattle.web_cli.specs.declared.fault.RunFault.{RunFault}
 use Rattle.web_cli.specs.declared.fault.RunFault.TheVariants as faults
 use Rattle.web_cli.specs.declared.files.HouseFiles.{Ghosts}
 use Rattle.web_cli.specs.Asked.{Asked, adds, asked_for, exports, imports, makes, migrates, none, plain_words, reports, runs, serves, works}
-use Rattle.web_cli.specs.Line.{end_of_line, end_of_run}
+use Rattle.web_cli.specs.Line.{end_of_line, end_of_report, end_of_run}
 use Rattle.web_cli.specs.declared.values.Report.{Report}
 use Rattle.web_cli.specs.declared.values.Report.TheVariants.{Version}
 use Rattle.web_cli.specs.declared.values.ReportFault.{ReportFault}
-use Rattle.web_cli.specs.declared.values.ReportFault.TheVariants as report-faults
 use Rattle.web_cli.specs.Values.{feed_values, report_of}
 use Rattle.web_handler.specs.Fed.{Ports}
 use Rattle.app_run.specs.Feed.{FeedsTexts}
@@ -27,11 +26,10 @@ page_of ports = record { taken = ports.taken; failures = ports.output }
 abbrev pub OnlyWrites : Ports → Ports → Type 0
 OnlyWrites old new = new ≡ record old { taken = new.taken; output = new.output }
 
--- the report is told; or the line asks for none, and is wrong; or its list can't be read
+-- the report is told; or the line asks for none, and ends by why
 abbrev pub ReportsWhere : Result Report ReportFault → Reporting → List ℕ → Page → Page → LineEnd → Type 0
 ReportsWhere (Ok report) reported file old new ended = (run : Result (Unit {0}) RunFault) × ReportsFile reported file report old new run × (ended ≡ end_of_run run)
-ReportsWhere (Err report-faults.Unknown) reported file old new ended = (ended ≡ ends.Wrong) × (new ≡ old)
-ReportsWhere (Err report-faults.Argument) reported file old new ended = (ended ≡ ends.Failed faults.Argument) × (new ≡ old)
+ReportsWhere (Err fault) reported file old new ended = (ended ≡ end_of_report fault) × (new ≡ old)
 
 -- a command came to this on the writer's page, the writer alone went on, and the line ends as the command did
 abbrev pub EndsAfter : (Page → Page → Result (Unit {0}) RunFault → Type 0) → Ports → Ports → LineEnd → Type 0

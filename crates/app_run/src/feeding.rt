@@ -31,7 +31,8 @@ pub fn feed<R: Source, W: Drain>(
     }
 }
 
-/// Runs `feed` by the texts of the command line. Where one of them can't be read, nothing is read and nothing written.
+/// Runs `feed` by the texts of the command line. Where one of them can't be read it is fault 84, which names it, and nothing is read and
+/// nothing written.
 pub fn feed_texts<R: Source, W: Drain>(
     alloc: Global,
     from: &str,
@@ -42,8 +43,8 @@ pub fn feed_texts<R: Source, W: Drain>(
     ensures { OnPorts R.Source W.Drain (FeedsTexts (feed_values from.now step.now))
         reader.old writer.old reader.new writer.new result }
 {
-    let Some((from, step)) = feed_values(from, step) else {
-        return Err(RunFault::Argument);
-    };
-    ended(feed(alloc, from, step, reader, writer))
+    match feed_values(from, step) {
+        Ok((from, step)) => ended(feed(alloc, from, step, reader, writer)),
+        Err(argument) => Err(RunFault::Argument(argument)),
+    }
 }

@@ -2,14 +2,14 @@
 
 ghost use Rattle.std.specs.Prelude.{◌≡◌, ◌&&◌, option_map};
 ghost use Rattle.base_values.specs.Slugs.{is_slug};
-ghost use Rattle.web_cli.specs.Saying.{AddsToken, ExportsFile, ImportsFile, MakesShop, OnPage, ReportsFile, ServesFile, Tells, WorksFile};
+ghost use Rattle.web_cli.specs.Saying.{AddsToken, ExportsFile, ImportsFile, MakesShop, OnPage, ReportsFile, ServesFile, Tells, WorksFile, name_at_fault};
 
 use base_devices::Drain;
 use base_values::{Body, is_slug};
 use itoa::Buffer;
 use std::alloc::Global;
 use web_cli::{
-    HouseFiles, Place, Report, RunFault, ServeLine, end_said, is_token, say, serve_values,
+    Argument, HouseFiles, Place, Report, RunFault, ServeLine, end_said, is_token, say, serve_values,
 };
 use web_http::write_all;
 
@@ -18,6 +18,17 @@ fn are_slugs(organizer: &str, event: &str) -> bool
     ensures { result ≡ (is_slug organizer.now && is_slug event.now) }
 {
     is_slug(organizer) & is_slug(event)
+}
+
+// Which of the two names is at fault where one is none: the organizer's, or else the event's.
+fn name_at_fault(organizer: &str) -> Argument
+    ensures { result ≡ name_at_fault (is_slug organizer.now) }
+{
+    if is_slug(organizer) {
+        Argument::Event
+    } else {
+        Argument::Organizer
+    }
 }
 
 /// `init`: makes a shop in a new file and says `ready`. A name that is no slug is fault 84, and then no file is asked for.
@@ -33,7 +44,7 @@ pub fn make_shop<F: HouseFiles, W: Drain>(
         writer.old writer.new result }
 {
     if !are_slugs(organizer, event) {
-        return Err(RunFault::Argument);
+        return Err(RunFault::Argument(name_at_fault(organizer)));
     }
     match files.make(alloc, file, organizer, event) {
         Ok(()) => end_said(say(writer, b"ready", b"")),
@@ -53,7 +64,7 @@ pub fn add_token<F: HouseFiles, W: Drain>(
     ensures { OnPage W.Drain (AddsToken F.added file.now token.now) writer.old writer.new result }
 {
     if !is_token(token) {
-        return Err(RunFault::Argument);
+        return Err(RunFault::Argument(Argument::Token));
     }
     match files.add_token(alloc, file, token) {
         Ok(number) => {
@@ -75,8 +86,9 @@ pub fn serve_shop<F: HouseFiles, W: Drain>(
     ensures { OnPage W.Drain (ServesFile F.served line.entry.file.now line.entry.listen.now
         (option_map (λ t. t.now) line.entry.connections)) writer.old writer.new result }
 {
-    let Some((addr, connections)) = serve_values(line.listen, line.connections) else {
-        return Err(RunFault::Argument);
+    let (addr, connections) = match serve_values(line.listen, line.connections) {
+        Ok(values) => values,
+        Err(argument) => return Err(RunFault::Argument(argument)),
     };
     let place = Place {
         addr,

@@ -13,8 +13,8 @@ use crate::filing::{
 use base_devices::{Drain, Source};
 use std::alloc::Global;
 use web_cli::{
-    Console, HouseFiles, Line, LineEnd, Report, ReportFault, RunFault, answer_line, plain_words,
-    read_line, report_of, tell_fault, tell_run, tell_unknown,
+    Console, HouseFiles, Line, LineEnd, Report, RunFault, answer_line, plain_words, read_line,
+    report_of, tell_fault, tell_report, tell_run,
 };
 
 // What a line of `report` comes to.
@@ -33,8 +33,7 @@ fn report_file<O: Console, F: HouseFiles, W: Drain>(
 {
     match report_of(name, list) {
         Ok(report) => tell_run(rt, report_shop(alloc, files, file, report, writer)),
-        Err(ReportFault::Unknown) => tell_unknown(rt, name),
-        Err(ReportFault::Argument) => tell_fault(rt, RunFault::Argument),
+        Err(fault) => tell_report(rt, name, fault),
     }
 }
 

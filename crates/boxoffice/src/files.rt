@@ -1,11 +1,12 @@
 //! Shops' files on the disk, by their names.
 
 ghost use Rattle.std.specs.Prelude.{⊤, IsTrue};
-ghost use Rattle.app_files.specs.Shelved.{is_shelf_fault};
+ghost use Rattle.app_files.specs.Shelved.{is_csv_fault, is_shelf_fault};
 
 use app_files::Shelf;
 use base_values::Body;
 use sqlite::{Connection, Error, ErrorCode, File, FileStore};
+use std::os::unix::fs::MetadataExt;
 use std::{fs, io};
 use web_cli::{Console, RunFault};
 
@@ -18,23 +19,35 @@ pub(crate) struct HostFiles<'a> {
     pub(crate) rt: &'a HostRuntime,
 }
 
-// Why the store doesn't open a file, as the program tells it.
-fn unopened(error: Error) -> RunFault
+// Why the file of this name can't be opened: it has a second name, which the store refuses, or whatever else.
+fn unopenable(rt: &HostRuntime, file: &str) -> RunFault
+    ensures { IsTrue (is_shelf_fault result) }
+{
+    match fs::metadata(rt, file) {
+        Ok(found) if found.is_file() && found.nlink() > 1 => RunFault::Linked,
+        _ => RunFault::File,
+    }
+}
+
+// Why the store doesn't open the file of this name, as the program tells it.
+fn unopened(rt: &HostRuntime, file: &str, error: Error) -> RunFault
     ensures { IsTrue (is_shelf_fault result) }
 {
     match error {
         Error::SqliteFailure(ErrorCode::OutOfMemory) => RunFault::Memory,
-        Error::SqliteFailure(ErrorCode::CannotOpen) => RunFault::File,
+        Error::SqliteFailure(ErrorCode::CannotOpen) => unopenable(rt, file),
         Error::SqliteFailure(ErrorCode::NotADatabase) => RunFault::NotAShop,
         _ => RunFault::Store,
     }
 }
 
-// Why the bytes of a file can't be had, as the program tells it.
-fn unread(error: io::Error) -> RunFault {
+// Why the bytes of a voucher file can't be had, as the program tells it.
+fn unread(error: io::Error) -> RunFault
+    ensures { IsTrue (is_csv_fault result) }
+{
     match error.kind() {
         io::ErrorKind::OutOfMemory => RunFault::Memory,
-        _ => RunFault::File,
+        _ => RunFault::CsvFile,
     }
 }
 
@@ -66,7 +79,7 @@ impl Shelf<Connection<FileStore<File>>> for HostFiles<'_> {
         tell_opening(self.rt, file);
         match Connection::open(self.rt, file) {
             Ok(connection) => Ok(connection),
-            Err(error) => Err(unopened(error)),
+            Err(error) => Err(unopened(self.rt, file, error)),
         }
     }
 

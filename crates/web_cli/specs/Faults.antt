@@ -21,8 +21,10 @@ fault_number (faults.Column line column) = 72
 fault_number faults.Unwritten = 73
 fault_number faults.TooManyLines = 74
 fault_number faults.File = 80
+fault_number faults.Linked = 80
+fault_number faults.CsvFile = 80
 fault_number faults.Listen = 81
-fault_number faults.Argument = 84
+fault_number (faults.Argument argument) = 84
 fault_number (faults.Run failure) = failure_number failure
 
 -- the end of a run, as the program's

@@ -8,6 +8,8 @@ use Rattle.base_devices.specs.Told.{Adds}
 use Rattle.base_devices.specs.declared.device.Drain.{Ghosts}
 use Rattle.base_devices.specs.declared.device.Refused.{Refused}
 use Rattle.web_http.specs.Written.{Page, Writes, writer_page}
+use Rattle.web_cli.specs.declared.argument.Argument.{Argument}
+use Rattle.web_cli.specs.declared.argument.Argument.TheVariants as arguments
 use Rattle.web_cli.specs.declared.fault.RunFault.{RunFault}
 use Rattle.web_cli.specs.declared.fault.RunFault.TheVariants as faults
 use Rattle.web_cli.specs.declared.values.Report.{Report}
@@ -48,19 +50,24 @@ Making = List ℕ → List ℕ → List ℕ → Result (Unit {0}) RunFault → T
 abbrev pub Adding : Type 1
 Adding = List ℕ → List ℕ → Result ℕ RunFault → Type 0
 
--- where both names can be read a shop is made, and that is said; else the argument is at fault, and nothing is said
+-- which of the two names is at fault, by whether the organizer's can be read: the first that can't
+abbrev pub name_at_fault : Bool → Argument
+name_at_fault true = arguments.Event
+name_at_fault false = arguments.Organizer
+
+-- where both names can be read a shop is made, and that is said; else the first that can't is at fault, and nothing is said
 abbrev pub MakesWhere : Bool → Making → List ℕ → List ℕ → List ℕ → Page → Page → Result (Unit {0}) RunFault → Type 0
 MakesWhere true made file organizer event old new result = (came : Result (Unit {0}) RunFault) × made file organizer event came × Tells ready_line came old new result
-MakesWhere false made file organizer event old new result = (result ≡ Err faults.Argument) × (new ≡ old)
+MakesWhere false made file organizer event old new result = (result ≡ Err (faults.Argument (name_at_fault (is_slug organizer)))) × (new ≡ old)
 
 -- `init`: a shop is made in the file, and that is told; or one of the two names can't be read, and nothing is asked of a file
 abbrev pub MakesShop : Making → List ℕ → List ℕ → List ℕ → Page → Page → Result (Unit {0}) RunFault → Type 0
 MakesShop made file organizer event = MakesWhere (is_slug organizer && is_slug event) made file organizer event
 
--- where the token can be read it is added, and its number said; else the argument is at fault, and nothing is said
+-- where the token can be read it is added, and its number said; else the token is at fault, and nothing is said
 abbrev pub AddsWhere : Bool → Adding → List ℕ → List ℕ → Page → Page → Result (Unit {0}) RunFault → Type 0
 AddsWhere true added file token old new result = (came : Result ℕ RunFault) × added file token came × Tells token_line came old new result
-AddsWhere false added file token old new result = (result ≡ Err faults.Argument) × (new ≡ old)
+AddsWhere false added file token old new result = (result ≡ Err (faults.Argument arguments.Token)) × (new ≡ old)
 
 -- `token-add`: the token is added, and its number told; or it can't be read, and nothing is asked of a file
 abbrev pub AddsToken : Adding → List ℕ → List ℕ → Page → Page → Result (Unit {0}) RunFault → Type 0
@@ -81,12 +88,12 @@ TellsListening listen old new result =
 abbrev pub Serving : Type 1
 Serving = List ℕ → SocketAddr → ℕ → Result (Unit {0}) RunFault → Type 0
 
--- `serve`: the shop in the file is served at the address, and that is told; or one of the two values can't be read, and nothing is asked of
--- a file
+-- `serve`: the shop in the file is served at the address, and that is told; or one of the two values can't be read, which is named, and
+-- nothing is asked of a file
 abbrev pub ServesFile : Serving → List ℕ → List ℕ → Option (List ℕ) → Page → Page → Result (Unit {0}) RunFault → Type 0
 ServesFile served file listen connections old new result =
-    ((addr : SocketAddr) × (n : ℕ) × AreServeValues listen connections (Some (addr, n)) × served file addr n result × TellsListening listen old new result)
-    ⊎ (AreServeValues listen connections None × (result ≡ Err faults.Argument) × (new ≡ old))
+    ((addr : SocketAddr) × (n : ℕ) × AreServeValues listen connections (Ok (addr, n)) × served file addr n result × TellsListening listen old new result)
+    ⊎ ((argument : Argument) × AreServeValues listen connections (Err argument) × (result ≡ Err (faults.Argument argument)) × (new ≡ old))
 
 -- what periodic work of the shop in a file may come to, by the file's name: a text of what was done
 abbrev pub Working : Type 1

@@ -4,7 +4,7 @@ use crate::fault::RunFault;
 use std::fmt;
 use web_connection::Failure;
 
-/// A fault as a sentence for a person: what is wrong, with line and column of a voucher file, and what to do.
+/// A fault as a sentence for a person: what is wrong, with line and column of a voucher file or the argument's name, and what to do.
 #[derive(Clone, Copy)]
 pub struct Advice(pub RunFault);
 
@@ -21,7 +21,7 @@ fn advice_on_failure(failure: Failure) -> &'static str {
     }
 }
 
-// The sentence of a fault that names no line.
+// The sentence of a fault that names no line and no argument.
 fn advice_on(fault: RunFault) -> &'static str {
     match fault {
         RunFault::Memory => advice_on_failure(Failure::Memory),
@@ -52,14 +52,18 @@ fn advice_on(fault: RunFault) -> &'static str {
             "The CSV file has more than 100,000 lines. Split it. Nothing was imported."
         }
         RunFault::File => {
-            "A file can't be opened or made. Look at its name, and at who may read and write there."
+            "The shop's file can't be opened or made. Look at its name, and at who may read and write there."
+        }
+        RunFault::Linked => {
+            "The shop's file has two names (a hard link). Delete the other name, or make it a copy of its own: find -samefile shows it."
+        }
+        RunFault::CsvFile => {
+            "The CSV file can't be read. Look at its name, and at who may read it. Nothing was imported."
         }
         RunFault::Listen => {
             "The address takes no callers. Does another program listen there? Is it this machine's?"
         }
-        RunFault::Argument => {
-            "A value on the line can't be read or is out of its range. --help behind the command names the ranges."
-        }
+        RunFault::Argument(_) => "--help behind the command has an example.",
         RunFault::Run(failure) => advice_on_failure(failure),
     }
 }
@@ -76,6 +80,13 @@ impl fmt::Display for Advice {
                 f,
                 "Line {line} of the CSV file, counted below its first, column {column}, can't be read or is out of its range. {rest}"
             ),
+            RunFault::Argument(argument) => {
+                let range = argument.range();
+                write!(
+                    f,
+                    "The value of {argument} can't be read or is out of its range. It has to be {range}. {rest}"
+                )
+            }
             _ => write!(f, "{rest}"),
         }
     }

@@ -3,6 +3,7 @@
 ghost use Rattle.std.specs.Prelude.{◌≡◌};
 ghost use Rattle.web_cli.specs.Faults.{as_fault, fault_number};
 
+use crate::argument::Argument;
 use model_rules::Rule;
 use std::alloc::AllocError;
 use std::fmt;
@@ -35,12 +36,16 @@ pub enum RunFault {
     Unwritten,
     /// A voucher file has more lines than 100,000.
     TooManyLines,
-    /// The file can't be opened, or can't be made.
+    /// The shop's file can't be opened, or can't be made.
     File,
+    /// The shop's file has a second name, a hard link.
+    Linked,
+    /// The voucher file can't be read.
+    CsvFile,
     /// The address can't be listened at, or takes no callers any more.
     Listen,
-    /// The value of an argument can't be read, or is out of its range.
-    Argument,
+    /// The value of this argument can't be read, or is out of its range.
+    Argument(Argument),
     /// The run failed.
     Run(Failure),
 }
@@ -64,9 +69,9 @@ impl RunFault {
             RunFault::Column(_, _) => 72,
             RunFault::Unwritten => 73,
             RunFault::TooManyLines => 74,
-            RunFault::File => 80,
+            RunFault::File | RunFault::Linked | RunFault::CsvFile => 80,
             RunFault::Listen => 81,
-            RunFault::Argument => 84,
+            RunFault::Argument(_) => 84,
             RunFault::Run(failure) => failure.number(),
         }
     }

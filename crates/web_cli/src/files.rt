@@ -99,7 +99,7 @@ pub trait HouseFiles {
 
     /// Adds the vouchers of a CSV file to the shop in a file, and tells of each row what became of it: its code, and `added`, `same`, `other`
     /// or `refused N`. Faults, in this order: those of the shop's file, 80 where it can't be opened and 60 to 63 where it isn't a shop's that
-    /// is whole; those of the CSV file, 80, and 70 to 74 for what it says; 85 where there is no clock or no draw; 63 where what was done
+    /// is whole; those of the CSV file, 80 where it can't be read, and 70 to 74 for what it says; 85 where there is no clock or no draw; 63 where what was done
     /// couldn't be written; and 6. Beside a fault nothing has changed.
     fn import(&self, alloc: Global, file: &str, csv: &str) -> Result<Body, RunFault>
         ensures { imported file.now csv.now result };

@@ -4,6 +4,7 @@
 #![tactic(auto)]
 
 pub mod advice;
+pub mod argument;
 pub mod console;
 pub mod devices;
 pub mod ended;
@@ -17,12 +18,13 @@ pub mod values;
 pub mod words;
 
 pub use advice::Advice;
+pub use argument::Argument;
 pub use console::Console;
 pub use devices::counted;
 pub use ended::LineEnd;
 pub use fault::RunFault;
 pub use files::{HouseFiles, Place};
-pub use line::{answer_line, tell_fault, tell_run, tell_unknown, tell_words};
+pub use line::{answer_line, tell_fault, tell_report, tell_run, tell_words};
 pub use saying::{end_said, say};
 pub use ticks::{FeedTicks, Pace};
 pub use values::{Report, ReportFault, feed_values, is_token, report_of, serve_values};

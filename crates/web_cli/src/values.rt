@@ -4,6 +4,7 @@ ghost use Rattle.std.specs.Prelude.{◌≡◌, option_map};
 ghost use Rattle.std.specs.List.{list_all};
 ghost use Rattle.web_cli.specs.Values.{AreServeValues, connections_of, door_by, feed_values, is_token, is_token_byte, report_of, sales_by};
 
+use crate::argument::Argument;
 use base_dates::read_moment;
 use base_values::{Moment, number_of};
 use std::net::SocketAddr;
@@ -14,16 +15,16 @@ const MOST_STEP: u64 = 31_536_000;
 /// The most connections that are counted.
 const MOST_CONNECTIONS: u64 = 1_000_000;
 
-/// The values of `--from` and `--step`: a moment, and 0 to 31536000 seconds as plain digits.
-pub fn feed_values(from: &str, step: &str) -> Option<(Moment, u64)>
+/// The values of `--from` and `--step`: a moment, and 0 to 31536000 seconds as plain digits; or the first of the two that can't be read.
+pub fn feed_values(from: &str, step: &str) -> Result<(Moment, u64), Argument>
     ensures { result ≡ feed_values from.now step.now }
 {
     let Ok(from) = read_moment(from) else {
-        return None;
+        return Err(Argument::From);
     };
     match number_of(step.as_bytes()) {
-        Some(step) if step <= MOST_STEP => Some((from, step)),
-        _ => None,
+        Some(step) if step <= MOST_STEP => Ok((from, step)),
+        _ => Err(Argument::Step),
     }
 }
 
@@ -41,16 +42,16 @@ fn connections_of(text: Option<&str>) -> Option<u64>
 }
 
 /// The values of `--listen` and `--connections`: an IP address with a port, as `SocketAddr` reads it, and 0 to 1000000 connections as
-/// plain digits, 0 where they are left out.
-pub fn serve_values(listen: &str, connections: Option<&str>) -> Option<(SocketAddr, u64)>
+/// plain digits, 0 where they are left out; or which of the two can't be read.
+pub fn serve_values(listen: &str, connections: Option<&str>) -> Result<(SocketAddr, u64), Argument>
     ensures { AreServeValues listen.now (option_map (λ t. t.now) connections.entry) result }
 {
     let Ok(addr) = listen.parse::<SocketAddr>() else {
-        return None;
+        return Err(Argument::Listen);
     };
     match connections_of(connections) {
-        Some(connections) => Some((addr, connections)),
-        None => None,
+        Some(connections) => Ok((addr, connections)),
+        None => Err(Argument::Connections),
     }
 }
 
@@ -68,8 +69,12 @@ pub enum Report {
 /// Why the words of a line ask for no report.
 #[derive(Clone, Copy, PartialEq, Eq)]
 pub enum ReportFault {
-    /// There is no report of this name, or none with a list, or none without.
+    /// There is no report of this name.
     Unknown,
+    /// The report of this name has no list.
+    HasNoList,
+    /// The report of this name needs a list.
+    NeedsList,
     /// The list's number can't be read.
     Argument,
 }
@@ -80,7 +85,7 @@ fn sales_by(list: Option<&str>) -> Result<Report, ReportFault>
 {
     match list {
         None => Ok(Report::Sales),
-        Some(_) => Err(ReportFault::Unknown),
+        Some(_) => Err(ReportFault::HasNoList),
     }
 }
 
@@ -89,7 +94,7 @@ fn door_by(list: Option<&str>) -> Result<Report, ReportFault>
     ensures { result ≡ door_by (option_map (λ t. t.now) list.entry) }
 {
     let Some(text) = list else {
-        return Err(ReportFault::Unknown);
+        return Err(ReportFault::NeedsList);
     };
     match number_of(text.as_bytes()) {
         Some(number) => Ok(Report::Door(number)),
