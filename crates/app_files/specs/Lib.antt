@@ -12,3 +12,4 @@ pub mod Shelved
 pub mod Evening
 pub mod Migrated
 pub mod Asked
+pub mod Heads

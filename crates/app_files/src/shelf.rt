@@ -26,8 +26,8 @@ pub trait Shelf<C> {
     fn stands(&self, file: &str) -> bool
         ensures { stood file.now result };
 
-    /// A connection to the file of this name, which is made where there is none. Faults: 80 where it can't be opened or has a second name,
-    /// 60 where it is no database, 63 and 6.
+    /// A connection to the file of this name, which is made where there is none, for its owner alone. Faults: 80 where it can't be opened or
+    /// has a second name, 60 where its bytes show that it is no shop's, and then it stays as it is, 63 and 6.
     fn open(&self, file: &str) -> Result<C, RunFault>
         ensures given { IfOk result (λ connection. gives file.now connection) }
         ensures refused { IfErr result (λ fault. IsRefused refuses file.now fault) };

@@ -3,6 +3,7 @@
 ghost use Rattle.std.specs.Prelude.{⊤, IsTrue};
 ghost use Rattle.app_files.specs.Shelved.{is_csv_fault, is_shelf_fault};
 
+use crate::looks::{is_strange, make_private};
 use app_files::Shelf;
 use base_values::Body;
 use sqlite::{Connection, Error, ErrorCode, File, FileStore};
@@ -52,13 +53,10 @@ fn unread(error: io::Error) -> RunFault
 }
 
 // Says on a terminal that a large file is opened: the store looks at all of it before it gives a row, and tells nothing meanwhile.
-fn tell_opening(rt: &HostRuntime, file: &str) {
-    if let Ok(found) = fs::metadata(rt, file) {
-        let size = found.len();
-        if size >= LARGE && rt.has_reader() {
-            let megabytes = size / 1_000_000;
-            let _ = eprintln!(rt; "boxoffice: opening {file}, {megabytes} MB");
-        }
+fn tell_opening(rt: &HostRuntime, file: &str, size: u64) {
+    if size >= LARGE && rt.has_reader() {
+        let megabytes = size / 1_000_000;
+        let _ = eprintln!(rt; "boxoffice: opening {file}, {megabytes} MB");
     }
 }
 
@@ -76,7 +74,13 @@ impl Shelf<Connection<FileStore<File>>> for HostFiles<'_> {
     }
 
     fn open(&self, file: &str) -> Result<Connection<FileStore<File>>, RunFault> {
-        tell_opening(self.rt, file);
+        match fs::metadata(self.rt, file) {
+            Ok(found) if found.is_file() && is_strange(self.rt, file) => {
+                return Err(RunFault::NotAShop);
+            }
+            Ok(found) => tell_opening(self.rt, file, found.len()),
+            Err(_) => make_private(self.rt, file),
+        }
         match Connection::open(self.rt, file) {
             Ok(connection) => Ok(connection),
             Err(error) => Err(unopened(self.rt, file, error)),

@@ -4,6 +4,7 @@
 ghost use Rattle.base_devices.specs.Blanks.{IsBlankOf};
 
 mod files;
+mod looks;
 
 use crate::files::HostFiles;
 use app_files::{House, Shelf};
