@@ -4,3 +4,4 @@ pub mod Line
 pub mod Fresh
 pub mod Stored
 pub mod Opened
+pub mod Typed

@@ -10,9 +10,11 @@ pub mod house;
 pub mod laws;
 pub mod line;
 pub mod opening;
+pub mod typed;
 
 pub use feeding::{feed, feed_texts};
 pub use filing::{add_token, export_shop, make_shop, report_shop, serve_shop, work_shop};
 pub use house::serve_house;
 pub use line::run;
 pub use opening::{open_memory, open_store};
+pub use typed::add_typed_token;

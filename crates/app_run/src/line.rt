@@ -2,7 +2,7 @@
 
 ghost use Rattle.std.specs.Prelude.{map, option_map, string_bytes};
 ghost use Rattle.app_run.specs.Feed.{OnPorts};
-ghost use Rattle.app_run.specs.Line.{Ran, ReportsWhere};
+ghost use Rattle.app_run.specs.Line.{AddsGiven, Ran, ReportsWhere};
 ghost use Rattle.web_cli.specs.Saying.{OnPage};
 ghost use Rattle.web_cli.specs.Values.{report_of};
 
@@ -10,6 +10,7 @@ use crate::feeding::feed_texts;
 use crate::filing::{
     add_token, export_shop, import_vouchers, make_shop, report_shop, serve_shop, work_shop,
 };
+use crate::typed::add_typed_token;
 use base_devices::{Drain, Source};
 use std::alloc::Global;
 use web_cli::{
@@ -37,9 +38,29 @@ fn report_file<O: Console, F: HouseFiles, W: Drain>(
     }
 }
 
+// What a line of `token-add` comes to: the token is its word, or for `-` the first line of the reader.
+fn add_given_token<O: Console, F: HouseFiles, R: Source, W: Drain>(
+    rt: &O,
+    alloc: Global,
+    files: &F,
+    file: &str,
+    token: &str,
+    reader: &mut R,
+    writer: &mut W,
+) -> LineEnd
+    ensures { OnPorts R.Source W.Drain (AddsGiven F.added file.now token.now)
+        reader.old writer.old reader.new writer.new result }
+{
+    if token == "-" {
+        tell_run(rt, add_typed_token(alloc, files, file, reader, writer))
+    } else {
+        tell_run(rt, add_token(alloc, files, file, token, writer))
+    }
+}
+
 /// Runs a command line, whose first word is the program, from the reader to the writer. What it asks for decides: the command
 /// that it names, help, or a wrong line; the last two, and a value that can't be read, read nothing and write nothing. The commands on a
-/// shop's file read nothing.
+/// shop's file read nothing, but for `token-add FILE -`.
 pub fn run<O: Console, F: HouseFiles, R: Source, W: Drain>(
     rt: &O,
     alloc: Global,
@@ -64,7 +85,7 @@ pub fn run<O: Console, F: HouseFiles, R: Source, W: Drain>(
             make_shop(alloc, files, line.file, line.organizer, line.event, writer),
         ),
         Ok(Line::TokenAdd(line)) => {
-            tell_run(rt, add_token(alloc, files, line.file, line.token, writer))
+            add_given_token(rt, alloc, files, line.file, line.token, reader, writer)
         }
         Ok(Line::Serve(line)) => tell_run(rt, serve_shop(alloc, files, line, writer)),
         Ok(Line::Periodic(line)) => tell_run(rt, work_shop(alloc, files, line.file, writer)),

@@ -231,7 +231,7 @@ fn token_command<'a>(alloc: Global) -> Result<Command<'a>, AllocError>
         alloc,
         "token",
         "TOKEN",
-        "The token: 1 to 254 ASCII letters, digits and signs, without spaces",
+        "The token: 1 to 254 ASCII letters, digits and signs, without spaces; for - it is the first line of standard input",
     ))
 }
 
