@@ -7,6 +7,7 @@ use Rattle.web_connection.specs.declared.failure.Failure.TheVariants as failures
 use Rattle.web_http.specs.Written.{Page}
 use Rattle.web_cli.specs.declared.ended.LineEnd.{LineEnd}
 use Rattle.web_cli.specs.declared.ended.LineEnd.TheVariants as ends
+use Rattle.web_cli.specs.declared.argument.Argument.TheVariants as arguments
 use Rattle.web_cli.specs.declared.fault.RunFault.{RunFault}
 use Rattle.web_cli.specs.declared.fault.RunFault.TheVariants as faults
 use Rattle.web_cli.specs.declared.files.HouseFiles.{Ghosts}
@@ -41,7 +42,7 @@ EndsAfter Comes old new ended = (run : Result (Unit {0}) RunFault) × Comes (pag
 -- the text of a line is added as a token, or is none, also where it isn't UTF-8: then the argument is at fault, and nothing is said
 abbrev pub AddsLine : Adding → List ℕ → List ℕ → Page → Page → Result (Unit {0}) RunFault → Type 0
 AddsLine added file text old new result =
-    AddsToken added file text old new result ⊎ (¬ (IsUtf8 text) × (result ≡ Err faults.Argument) × (new ≡ old))
+    AddsToken added file text old new result ⊎ (¬ (IsUtf8 text) × (result ≡ Err (faults.Argument arguments.Token)) × (new ≡ old))
 
 -- The first line of the reader came, and its text was added, or was no token; or the reader failed, and nothing is said. The reader is called
 -- at most 256 times.

@@ -11,7 +11,7 @@ ghost use Rattle.app_run.specs.Typed.{IsFirstLine, byte_of, uncut};
 use crate::filing::add_token;
 use base_devices::{Drain, Refused, Source};
 use std::alloc::Global;
-use web_cli::{HouseFiles, RunFault};
+use web_cli::{Argument, HouseFiles, RunFault};
 use web_connection::Failure;
 
 // More bytes than a token and the end of its line have.
@@ -78,7 +78,7 @@ fn add_line<F: HouseFiles, W: Drain>(
 {
     match str::from_utf8(text) {
         Ok(token) => add_token(alloc, files, file, token, writer),
-        Err(_) => Err(RunFault::Argument),
+        Err(_) => Err(RunFault::Argument(Argument::Token)),
     }
 }
 
