@@ -5,3 +5,4 @@ mod ActLemmas
 mod ImportLemmas
 mod ExportLemmas
 pub mod MigrateLemmas
+mod HeadLemmas
