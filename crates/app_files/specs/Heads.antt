@@ -29,6 +29,6 @@ abbrev pub TellsMark : Bool → List ℕ → Option (List ℕ) → Type 0
 TellsMark true bytes left = (at : ℕ) × HasMarkAt bytes at
 TellsMark false bytes left = HasNoMark bytes × IsAtEnd left
 
--- these bytes are the kept ones and, behind them, what was read
+-- all bytes are the kept ones and, behind them, what was read
 abbrev pub IsBehind : List ℕ → List ℕ → Option (List ℕ) → Option (List ℕ) → Type 0
 IsBehind kept all old new = (read : List ℕ) × (all ≡ kept ++ read) × Gives old read new
