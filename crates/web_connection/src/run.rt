@@ -6,7 +6,7 @@ ghost use Rattle.web_connection.specs.Outside.{RunsFrom, RunsOver, outside};
 
 use crate::desk::Desk;
 use crate::failure::Failure;
-use crate::room::{Piece, Room};
+use crate::room::Room;
 use crate::step::serve_ready;
 use base_devices::device::{Drain, Source, Ticks};
 use std::alloc::Global;
@@ -39,18 +39,18 @@ fn take_in<R: Source>(
 /// Reads to the end, and answers each message.
 fn serve_all<R: Source, T: Ticks, D: Desk, W: Drain>(
     alloc: Global,
-    frames: &mut Frames,
-    piece: &mut Piece,
+    room: &mut Room,
     reader: &mut R,
     ticks: &mut T,
     desk: &mut D,
     writer: &mut W,
 ) -> Result<(), Failure>
-    requires { frames.old.left ≡ [] }
+    requires { room.old.frames.left ≡ [] }
     ensures { RunsOver (AtTick T.reads D.serves) desk.old desk.new
         (outside R.Source T.Ticks W.Drain reader.old ticks.old writer.old)
         (outside R.Source T.Ticks W.Drain reader.new ticks.new writer.new) result }
 {
+    let Room { frames, piece } = room;
     for turn in 0..1_000_000u32 {
         match serve_ready(alloc, frames, ticks, desk, writer) {
             Ok(true) => {}
@@ -86,9 +86,8 @@ pub fn run_stream<R: Source, T: Ticks, D: Desk, W: Drain>(
         (outside R.Source T.Ticks W.Drain reader.old ticks.old writer.old)
         (outside R.Source T.Ticks W.Drain reader.new ticks.new writer.new) result }
 {
-    let frames = &mut room.frames;
-    frames.clear();
-    serve_all(alloc, frames, &mut room.piece, reader, ticks, desk, writer)
+    room.frames.clear();
+    serve_all(alloc, room, reader, ticks, desk, writer)
 }
 
 /// Answers a stream of requests at a desk that is there for it alone.
