@@ -2,12 +2,12 @@
 
 use crate::party::Guest;
 use crate::turns::serve_turns;
-use base_devices::{Device, Ticks};
+use base_devices::Ticks;
 use std::alloc::{AllocError, Global};
 use std::sync::ledger::Ledger;
-use web_connection::{Desk, Piece};
+use web_connection::Desk;
 use web_sockets::Script;
-use web_turns::{Hall, Next};
+use web_turns::{Context, Hall, Next};
 
 /// A hall over memory, who is still to come, the last of them first, and what each caller was told who left.
 #[derive(Drop)]
@@ -67,18 +67,14 @@ impl<'a> Floor<'a> {
     /// What is next happens.
     pub(crate) fn go<L: Ledger, M: Ledger, T: Ticks, D: Desk>(
         &mut self,
-        alloc: Global,
         next: Next,
-        piece: &mut Piece,
-        page: &mut Device<Vec<u8>, L, M>,
-        ticks: &mut T,
-        desk: &mut D,
+        context: &mut Context<'_, L, M, T, D>,
     ) {
         if let Next::Leaves(place) = next {
             return self.leave(place);
         }
         let (hall, comers) = (&mut self.hall, &mut self.comers);
-        serve_turns(alloc, piece, page, hall, comers, &[next], ticks, desk);
+        serve_turns(context, hall, comers, &[next]);
     }
 
     /// All leave: what each caller was told, by its number.

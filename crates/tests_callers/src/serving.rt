@@ -11,20 +11,16 @@ use std::alloc::Global;
 use std::marker::Brand;
 use std::sync::ledger::{Blank, Ledger};
 use web_connection::{Desk, Piece};
-use web_turns::Next;
+use web_turns::{Context, Next};
 
 // All that happens, one after another.
 fn go_on<L: Ledger, M: Ledger, T: Ticks, D: Desk>(
-    alloc: Global,
     floor: &mut Floor<'_>,
     order: &[Next],
-    piece: &mut Piece,
-    page: &mut Device<Vec<u8>, L, M>,
-    ticks: &mut T,
-    desk: &mut D,
+    context: &mut Context<'_, L, M, T, D>,
 ) {
     for next in order {
-        floor.go(alloc, *next, piece, page, ticks, desk);
+        floor.go(*next, context);
     }
 }
 
@@ -48,7 +44,8 @@ impl Party<'_> {
         };
         let mut piece = Piece::new(alloc)?;
         let mut floor = Floor::new(alloc, self.places, self.guests.as_slice())?;
-        go_on(alloc, &mut floor, order, &mut piece, &mut page, ticks, desk);
+        let mut context = Context::new(alloc, &mut piece, &mut page, ticks, desk);
+        go_on(&mut floor, order, &mut context);
         Ok(floor.close())
     }
 

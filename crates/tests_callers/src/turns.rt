@@ -3,15 +3,15 @@
 ghost use Rattle.std.specs.Prelude.{List};
 ghost use Rattle.web_connection.specs.Run.{AtTick};
 ghost use Rattle.web_sockets.specs.Comers.{Begun};
-ghost use Rattle.web_turns.specs.Acts.{between};
+ghost use Rattle.web_turns.specs.Contexts.{KeepsLent, between_at};
 ghost use Rattle.web_turns.specs.Halls.{Does, DoesAll, LetsIn};
 
-use base_devices::{Device, Ticks};
+use base_devices::Ticks;
 use std::alloc::Global;
 use std::sync::ledger::Ledger;
-use web_connection::{Desk, Piece};
+use web_connection::Desk;
 use web_sockets::Ends;
-use web_turns::{Hall, Next};
+use web_turns::{Context, Hall, Next};
 
 // The last of those who are to come, to a place that is free.
 #[tactic(auto, using(crate::proofs::ComeLemmas::nobody_came, crate::proofs::ComeLemmas::one_came))]
@@ -29,23 +29,20 @@ fn come_in<E: Ends>(alloc: Global, hall: &mut Hall<E>, comers: &mut Vec<E>)
 
 // What is next.
 fn do_next<E: Ends, L: Ledger, M: Ledger, T: Ticks, D: Desk>(
-    alloc: Global,
-    piece: &mut Piece,
-    page: &mut Device<Vec<u8>, L, M>,
+    context: &mut Context<'_, L, M, T, D>,
     hall: &mut Hall<E>,
     comers: &mut Vec<E>,
     next: Next,
-    ticks: &mut T,
-    desk: &mut D,
 )
+    ensures keeps { KeepsLent context.old context.new }
     ensures does { (came : List Begun) × Does (AtTick T.reads D.serves)
-        (between (T.told ticks.old) desk.old) (between (T.told ticks.new) desk.new)
+        (between_at T.Ticks context.old) (between_at T.Ticks context.new)
         came hall.old hall.new next }
 {
     match next {
-        Next::Comes => come_in(alloc, hall, comers),
+        Next::Comes => come_in(context.alloc, hall, comers),
         Next::Turn(place) => {
-            let _ = hall.turn(alloc, place, piece, page, ticks, desk);
+            let _ = hall.turn(place, context);
         }
         Next::Leaves(place) => {
             let _ = hall.leave(place);
@@ -56,20 +53,17 @@ fn do_next<E: Ends, L: Ledger, M: Ledger, T: Ticks, D: Desk>(
 /// Callers come, have turns and leave, in whatever order, at one desk. Nobody comes where nobody is left who may, where no place is free, or
 /// where there is no memory for one more.
 pub fn serve_turns<E: Ends, L: Ledger, M: Ledger, T: Ticks, D: Desk>(
-    alloc: Global,
-    piece: &mut Piece,
-    page: &mut Device<Vec<u8>, L, M>,
+    context: &mut Context<'_, L, M, T, D>,
     hall: &mut Hall<E>,
     comers: &mut Vec<E>,
     order: &[Next],
-    ticks: &mut T,
-    desk: &mut D,
 )
-    ensures { (came : List Begun) × DoesAll (AtTick T.reads D.serves)
-        (between (T.told ticks.old) desk.old) (between (T.told ticks.new) desk.new)
+    ensures keeps { KeepsLent context.old context.new }
+    ensures does { (came : List Begun) × DoesAll (AtTick T.reads D.serves)
+        (between_at T.Ticks context.old) (between_at T.Ticks context.new)
         came hall.old hall.new order.now }
 {
     for next in order {
-        do_next(alloc, piece, page, hall, comers, *next, ticks, desk);
+        do_next(context, hall, comers, *next);
     }
 }

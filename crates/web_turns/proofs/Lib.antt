@@ -1,3 +1,4 @@
+pub mod ContextLemmas
 pub mod HallLemmas
 pub mod RecordLemmas
 pub mod StoryLemmas

@@ -1,3 +1,4 @@
 pub mod Acts
+pub mod Contexts
 pub mod Talks
 pub mod Halls

@@ -2,17 +2,18 @@
 
 ghost use Rattle.std.specs.Prelude.{◌≡◌, ℕ, None, length, option_map, replicate, IfOk, IfSome, IfNone, OnOk, OnErr};
 ghost use Rattle.web_connection.specs.Run.{AtTick};
-ghost use Rattle.web_turns.specs.Acts.{between};
+ghost use Rattle.web_turns.specs.Contexts.{KeepsLent, between_at};
 ghost use Rattle.web_turns.specs.Talks.{talk_begun};
 ghost use Rattle.web_turns.specs.Halls.{FindsFree, IsFree, TurnsAt, at_place, callers, leaves_with, place_needs, place_unsent, with_caller, with_place};
 
+use crate::context::Context;
 use crate::place::Place;
 use crate::stage::Needs;
-use base_devices::{Device, Refused, Ticks};
+use base_devices::{Refused, Ticks};
 use std::alloc::{AllocError, Global};
 use std::marker::Model;
 use std::sync::ledger::Ledger;
-use web_connection::{Desk, Piece};
+use web_connection::Desk;
 use web_sockets::Ends;
 
 /// The callers of a house, each at its place. A place that is left is taken again by a later caller, who has a number of its own.
@@ -134,22 +135,19 @@ impl<E: Ends> Hall<E> {
     /// A turn of whoever is at a place.
     pub fn turn<L: Ledger, M: Ledger, T: Ticks, D: Desk>(
         &mut self,
-        alloc: Global,
         place: usize,
-        piece: &mut Piece,
-        page: &mut Device<Vec<u8>, L, M>,
-        ticks: &mut T,
-        desk: &mut D,
+        context: &mut Context<'_, L, M, T, D>,
     ) -> Result<(), Refused>
+        ensures keeps { KeepsLent context.old context.new }
         ensures turn { TurnsAt (AtTick T.reads D.serves)
-            (between (T.told ticks.old) desk.old) (between (T.told ticks.new) desk.new)
+            (between_at T.Ticks context.old) (between_at T.Ticks context.new)
             place self.old self.new }
     {
         if place >= self.places.len() {
             return Ok(());
         }
         let found = &mut self.places[place];
-        found.turn(alloc, piece, page, ticks, desk)
+        found.turn(context)
     }
 
     /// Whoever is at a place leaves.

@@ -1,6 +1,7 @@
 //! How do many conversations take turns at one desk, in any order?
 #![tactic(auto)]
 
+pub mod context;
 pub mod hall;
 pub mod laws;
 pub mod place;
@@ -8,6 +9,7 @@ pub mod stage;
 pub mod talk;
 pub mod turns;
 
+pub use context::Context;
 pub use hall::Hall;
 pub use place::Place;
 pub use stage::{Needs, Stage};

@@ -2,17 +2,18 @@
 
 ghost use Rattle.std.specs.Prelude.{◌≡◌, [], None, Some, is_none, option_map, IfOk, OnOk, OnErr};
 ghost use Rattle.web_connection.specs.Run.{AtTick};
-ghost use Rattle.web_turns.specs.Acts.{between};
+ghost use Rattle.web_turns.specs.Contexts.{KeepsLent, between_at};
 ghost use Rattle.web_turns.specs.Talks.{talk_begun};
 ghost use Rattle.web_turns.specs.Halls.{IsSpare, TakesTurn, caller, leaves_with, place_needs, place_unsent};
 
+use crate::context::Context;
 use crate::stage::Needs;
 use crate::talk::Talk;
-use base_devices::{Device, Refused, Ticks};
+use base_devices::{Refused, Ticks};
 use std::alloc::{AllocError, Global};
 use std::marker::Model;
 use std::sync::ledger::Ledger;
-use web_connection::{Desk, Piece};
+use web_connection::Desk;
 use web_http::frames::Frames;
 use web_sockets::Ends;
 
@@ -111,18 +112,15 @@ impl<E: Ends> Place<E> {
     /// A turn of whoever is here.
     pub fn turn<L: Ledger, M: Ledger, T: Ticks, D: Desk>(
         &mut self,
-        alloc: Global,
-        piece: &mut Piece,
-        page: &mut Device<Vec<u8>, L, M>,
-        ticks: &mut T,
-        desk: &mut D,
+        context: &mut Context<'_, L, M, T, D>,
     ) -> Result<(), Refused>
+        ensures keeps { KeepsLent context.old context.new }
         ensures turn { TakesTurn (AtTick T.reads D.serves)
-            (between (T.told ticks.old) desk.old) (between (T.told ticks.new) desk.new)
+            (between_at T.Ticks context.old) (between_at T.Ticks context.new)
             self.old self.new }
     {
         match &mut self.talk {
-            Some(talk) => talk.turn(alloc, piece, page, ticks, desk),
+            Some(talk) => talk.turn(context),
             None => Ok(()),
         }
     }

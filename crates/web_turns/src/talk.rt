@@ -3,12 +3,13 @@
 ghost use Rattle.std.specs.Prelude.{◌≡◌, []};
 ghost use Rattle.web_connection.specs.Run.{AtTick, IsPiece};
 ghost use Rattle.web_turns.specs.declared.stage.Stage.TheVariants as stages;
-ghost use Rattle.web_turns.specs.Acts.{between};
+ghost use Rattle.web_turns.specs.Contexts.{KeepsLent, between_at};
 ghost use Rattle.web_turns.specs.Halls.{has_some};
 ghost use Rattle.web_turns.specs.Talks.{Hears, Moves, Replies, Sends, Takes, Turn, talk_begun, needs_of};
 
+use crate::context::Context;
 use crate::stage::{Needs, Stage};
-use base_devices::{Device, Refused, Ticks};
+use base_devices::{Refused, Ticks};
 use std::alloc::Global;
 use std::marker::Model;
 use std::mem;
@@ -141,17 +142,22 @@ impl<E: Ends> Talk<E> {
     // Answers the first message that is whole, on a page.
     fn take_step<L: Ledger, M: Ledger, T: Ticks, D: Desk>(
         &mut self,
-        alloc: Global,
-        page: &mut Device<Vec<u8>, L, M>,
-        ticks: &mut T,
-        desk: &mut D,
+        context: &mut Context<'_, L, M, T, D>,
     )
         requires { self.old.stage ≡ stages.Goes }
-        ensures { Replies (AtTick T.reads D.serves)
-            (between (T.told ticks.old) desk.old) (between (T.told ticks.new) desk.new)
-            page.old.inner.items page.new.inner.items self.old self.new }
+        ensures keeps { KeepsLent context.old context.new }
+        ensures same_page { context.new.page.ghost_name ≡ context.old.page.ghost_name }
+        ensures replies { Replies (AtTick T.reads D.serves)
+            (between_at T.Ticks context.old) (between_at T.Ticks context.new)
+            context.old.page.now.inner.items context.new.page.now.inner.items self.old self.new }
     {
-        match step(alloc, &mut self.frames, ticks, desk, page) {
+        match step(
+            context.alloc,
+            &mut self.frames,
+            context.ticks,
+            context.desk,
+            context.page,
+        ) {
             Ok(Step::Waits) => self.stage = Stage::Waits,
             Ok(Step::Goes) => self.stage = Stage::Goes,
             Ok(Step::Ends) => self.stage = Stage::Ends,
@@ -162,19 +168,17 @@ impl<E: Ends> Talk<E> {
     // Answers the first message that is whole.
     fn reply<L: Ledger, M: Ledger, T: Ticks, D: Desk>(
         &mut self,
-        alloc: Global,
-        page: &mut Device<Vec<u8>, L, M>,
-        ticks: &mut T,
-        desk: &mut D,
+        context: &mut Context<'_, L, M, T, D>,
     )
         requires { self.old.stage ≡ stages.Goes }
-        ensures { Replies (AtTick T.reads D.serves)
-            (between (T.told ticks.old) desk.old) (between (T.told ticks.new) desk.new)
+        ensures keeps { KeepsLent context.old context.new }
+        ensures replies { Replies (AtTick T.reads D.serves)
+            (between_at T.Ticks context.old) (between_at T.Ticks context.new)
             [] self.new.unsent self.old self.new }
     {
-        page.inner.clear();
-        self.take_step(alloc, page, ticks, desk);
-        mem::swap(&mut self.answer, &mut page.inner);
+        context.page.inner.clear();
+        self.take_step(context);
+        mem::swap(&mut self.answer, &mut context.page.inner);
         self.at = 0;
     }
 
@@ -193,19 +197,17 @@ impl<E: Ends> Talk<E> {
     // Answers the first message that is whole where one may be there.
     fn reply_on<L: Ledger, M: Ledger, T: Ticks, D: Desk>(
         &mut self,
-        alloc: Global,
-        page: &mut Device<Vec<u8>, L, M>,
-        ticks: &mut T,
-        desk: &mut D,
+        context: &mut Context<'_, L, M, T, D>,
     )
         requires sent { self.old.unsent ≡ [] }
+        ensures keeps { KeepsLent context.old context.new }
         ensures turn { Turn (AtTick T.reads D.serves)
-            (between (T.told ticks.old) desk.old) (between (T.told ticks.new) desk.new)
+            (between_at T.Ticks context.old) (between_at T.Ticks context.new)
             self.old self.new }
         ensures takes { Takes self.old self.new }
     {
         match self.stage {
-            Stage::Goes => self.reply(alloc, page, ticks, desk),
+            Stage::Goes => self.reply(context),
             _ => {}
         }
     }
@@ -213,22 +215,19 @@ impl<E: Ends> Talk<E> {
     // Sends what is left of an answer; where nothing is left, it reads once, answers one message, and sends what is taken of its answer.
     fn go_on<L: Ledger, M: Ledger, T: Ticks, D: Desk>(
         &mut self,
-        alloc: Global,
-        piece: &mut Piece,
-        page: &mut Device<Vec<u8>, L, M>,
-        ticks: &mut T,
-        desk: &mut D,
+        context: &mut Context<'_, L, M, T, D>,
     ) -> Result<(), Refused>
+        ensures keeps { KeepsLent context.old context.new }
         ensures turn { Turn (AtTick T.reads D.serves)
-            (between (T.told ticks.old) desk.old) (between (T.told ticks.new) desk.new)
+            (between_at T.Ticks context.old) (between_at T.Ticks context.new)
             self.old self.new }
         ensures takes { Takes self.old self.new }
     {
         if self.at < self.answer.len() {
             return self.send();
         }
-        self.hear_on(piece);
-        self.reply_on(alloc, page, ticks, desk);
+        self.hear_on(context.piece);
+        self.reply_on(context);
         self.send()
     }
 
@@ -258,20 +257,17 @@ impl<E: Ends> Talk<E> {
     /// sending, it won't be brought more.
     pub fn turn<L: Ledger, M: Ledger, T: Ticks, D: Desk>(
         &mut self,
-        alloc: Global,
-        piece: &mut Piece,
-        page: &mut Device<Vec<u8>, L, M>,
-        ticks: &mut T,
-        desk: &mut D,
+        context: &mut Context<'_, L, M, T, D>,
     ) -> Result<(), Refused>
+        ensures keeps { KeepsLent context.old context.new }
         ensures turn { Turn (AtTick T.reads D.serves)
-            (between (T.told ticks.old) desk.old) (between (T.told ticks.new) desk.new)
+            (between_at T.Ticks context.old) (between_at T.Ticks context.new)
             self.old self.new }
         ensures takes { Takes self.old self.new }
     {
-        match self.go_on(alloc, piece, page, ticks, desk) {
+        match self.go_on(context) {
             Ok(()) => {
-                self.give_back(alloc);
+                self.give_back(context.alloc);
                 self.wait()
             }
             Err(refused) => Err(refused),

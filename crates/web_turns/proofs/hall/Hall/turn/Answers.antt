@@ -1,7 +1,7 @@
 use Rattle.std.proofs.Common.{◌∙◌, None, Option, refl, subst, arith}
 use Rattle.std.proofs.lemmas.List.{get_or_default}
 use Rattle.web_connection.specs.Run.{AtTick}
-use Rattle.web_turns.specs.Acts.{between}
+use Rattle.web_turns.specs.Contexts.{between_at}
 use Rattle.web_turns.specs.Halls.{Caller, TakesTurn}
 use Rattle.web_turns.proofs.hall.Hall.turn.Goals as goal
 
@@ -9,9 +9,10 @@ pub returns : goal.returns
 returns g c =
     let items = c.self.inside.places.items in
     let S = AtTick g.T.Ticks.reads g.D.Desk.serves in
-    let from = between (g.T.Ticks.told c.args.ticks.now) c.args.desk.now in
-    let to = between (g.T.Ticks.told c.turn.new.ticks) c.turn.new.desk in
+    let from = between_at g.T.Ticks c.args.context.now in
+    let to = between_at g.T.Ticks c.turn.new.context in
     rw (← c.self.view_is) (record {
+      keeps = c.turn.ensures.keeps;
       turn = (
         c.turn.new.self,
         subst (λ (old : Option Caller). TakesTurn S from to old c.turn.new.self)

@@ -1,7 +1,7 @@
 use Rattle.std.proofs.Common.{◌<◌, arith, length, refl, subst}
 use Rattle.std.proofs.lemmas.List.{length-drop}
 use Rattle.web_connection.specs.Run.{AtTick}
-use Rattle.web_turns.specs.Acts.{between}
+use Rattle.web_turns.specs.Contexts.{between_at}
 use Rattle.web_turns.specs.Talks.{Seat}
 use Rattle.web_turns.proofs.TurnLemmas.{sends_moves, takes_sent, takes_unsent, turn_moves, turn_more}
 use Rattle.web_turns.proofs.talk.Talk.go_on.Goals as goal
@@ -17,8 +17,8 @@ returns-then-self-len-clause-takes g c =
 pub returns-clause-turn : goal.returns-clause-turn
 returns-clause-turn g c =
     let S = AtTick g.T.Ticks.reads g.D.Desk.serves in
-    let from = between (g.T.Ticks.told c.args.ticks.now) c.args.desk.now in
-    let to = between (g.T.Ticks.told c.reply_on.new.ticks) c.reply_on.new.desk in
+    let from = between_at g.T.Ticks c.args.context.now in
+    let to = between_at g.T.Ticks c.reply_on.new.context in
     turn_more S from from to _ _ _ (turn_moves S from from _ _ refl c.hear_on.ensures.moves)
     (turn_more S from to to _ _ _ c.reply_on.ensures.turn (turn_moves S to to _ _ refl (sends_moves _ _ c.send-2.ensures)))
 

@@ -1,0 +1,49 @@
+//! What serving needs.
+
+ghost use Rattle.std.specs.Prelude.{◌≡◌};
+
+use base_devices::Device;
+use std::alloc::Global;
+use std::sync::ledger::Ledger;
+use web_connection::Piece;
+
+/// What serving needs: memory, a piece to read into, a page to write an answer on, the ticks of a clock, and the desk that answers. It holds no memory
+/// of its own, so that its end gives back what it was lent.
+#[derive(Drop)]
+pub struct Context<'a, L: Ledger, M: Ledger, T, D> {
+    /// Memory.
+    pub alloc: Global,
+    /// What a read is given to.
+    pub piece: &'a mut Piece,
+    /// What an answer is written on.
+    pub page: &'a mut Device<Vec<u8>, L, M>,
+    /// The ticks of a clock.
+    pub ticks: &'a mut T,
+    /// Who answers.
+    pub desk: &'a mut D,
+}
+
+impl<'a, L: Ledger, M: Ledger, T, D> Context<'a, L, M, T, D> {
+    /// Of all that serving needs.
+    pub fn new(
+        alloc: Global,
+        piece: &'a mut Piece,
+        page: &'a mut Device<Vec<u8>, L, M>,
+        ticks: &'a mut T,
+        desk: &'a mut D,
+    ) -> Context<'a, L, M, T, D>
+        ensures same_ticks { result.ticks.ghost_name ≡ ticks.entry.ghost_name }
+        ensures same_desk { result.desk.ghost_name ≡ desk.entry.ghost_name }
+        ensures ticks { result.ticks.now ≡ ticks.old }
+        ensures desk { result.desk.now ≡ desk.old }
+        ensures page { result.page.now ≡ page.old }
+    {
+        Context {
+            alloc,
+            piece,
+            page,
+            ticks,
+            desk,
+        }
+    }
+}
