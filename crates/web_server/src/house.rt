@@ -1,27 +1,27 @@
 //! A house that is open: its callers, and when they have to go.
 
 ghost use Rattle.std.specs.Prelude.{◌≡◌, ◌+◌, ◌<◌, ◌≤◌, [], ◌∷◌, None, true, replicate, slice_get, IfOk, IsOkUnless};
-ghost use Rattle.web_connection.specs.Run.{AtTick};
 ghost use Rattle.web_cli.specs.declared.fault.RunFault.TheVariants.{Listen};
-ghost use Rattle.web_turns.specs.Acts.{between};
+ghost use Rattle.web_turns.specs.Contexts.{KeepsLent};
 ghost use Rattle.web_turns.specs.Halls.{IsFree, LetsIn, at_place, callers, place_needs, place_unsent, with_place};
+ghost use Rattle.web_server.specs.Hosted.{HostsBy};
 ghost use Rattle.web_server.specs.Places.{GoesFirst, MakesRoom, NobodyIsThere, crowd_at, crowd_to, readiness_at};
 ghost use Rattle.web_server.specs.Times.{EndsLate, is_late, noted_at, stays};
-ghost use Rattle.web_server.specs.Visits.{Clears, Hosts, Rearranged, Reseats};
+ghost use Rattle.web_server.specs.Visits.{Clears, Rearranged, Reseats};
 ghost use Rattle.web_sockets.specs.Comers.{as_begun};
 
 use crate::clock::System;
 use crate::log::{Log, Parted};
 use crate::noted::Attended;
 use crate::times::{Crowd, Since};
-use base_devices::{Device, Ticks};
+use base_devices::Ticks;
 use std::alloc::{AllocError, Global};
 use std::sync::ledger::Ledger;
 use std::time::Clock;
 use web_cli::{Console, RunFault};
-use web_connection::{Desk, Piece};
+use web_connection::Desk;
 use web_sockets::{Comer, Ends, Event, Network};
-use web_turns::{Hall, Needs};
+use web_turns::{Context, Hall, Needs};
 
 /// How many callers are there at once at most.
 pub(crate) const PLACES: usize = 128;
@@ -324,19 +324,14 @@ impl<'a, R: Clock + System + Console, E: Ends> House<'a, R, E> {
     // A turn of the caller at a place.
     fn turn<N: Network<E>, L: Ledger, M: Ledger, T: Ticks, D: Desk + Attended>(
         &mut self,
-        alloc: Global,
         network: &mut N,
         place: usize,
-        piece: &mut Piece,
-        page: &mut Device<Vec<u8>, L, M>,
-        ticks: &mut T,
-        desk: &mut D,
+        context: &mut Context<'_, L, M, T, D>,
         now: u64,
     )
+        ensures keeps { KeepsLent context.old context.new }
         ensures listens { N.listens network.new ≡ N.listens network.old }
-        ensures hosts { Hosts (AtTick T.reads D.serves)
-            (between (T.told ticks.old) desk.old) (between (T.told ticks.new) desk.new)
-            self.old.hall self.new.hall self.old.left self.new.left
+        ensures hosts { HostsBy T.Ticks D.serves context.old context.new self.old self.new
             (N.came network.old) (N.came network.new) }
     {
         let before = self.hall.needs(place);
@@ -344,8 +339,8 @@ impl<'a, R: Clock + System + Console, E: Ends> House<'a, R, E> {
             return;
         }
         let number = self.hall.number(place);
-        desk.attend(number.unwrap_or(0));
-        match self.hall.turn(alloc, place, piece, page, ticks, desk) {
+        context.desk.attend(number.unwrap_or(0));
+        match self.hall.turn(place, context) {
             Ok(()) => self.note(network, place, before, now),
             Err(_) => {
                 self.log.tell_parted(number, Parted::Unreachable);
@@ -357,27 +352,23 @@ impl<'a, R: Clock + System + Console, E: Ends> House<'a, R, E> {
     /// What happened: somebody is at the door, a caller has a turn, or a connection that ended is read.
     pub(crate) fn hear<N: Network<E>, L: Ledger, M: Ledger, T: Ticks, D: Desk + Attended>(
         &mut self,
-        alloc: Global,
         network: &mut N,
         event: Event,
-        piece: &mut Piece,
-        page: &mut Device<Vec<u8>, L, M>,
-        ticks: &mut T,
-        desk: &mut D,
+        context: &mut Context<'_, L, M, T, D>,
         now: u64,
     )
+        ensures keeps { KeepsLent context.old context.new }
         ensures listens { N.listens network.new ≡ N.listens network.old }
-        ensures hosts { Hosts (AtTick T.reads D.serves)
-            (between (T.told ticks.old) desk.old) (between (T.told ticks.new) desk.new)
-            self.old.hall self.new.hall self.old.left self.new.left
+        ensures hosts { HostsBy T.Ticks D.serves context.old context.new self.old self.new
             (N.came network.old) (N.came network.new) }
     {
         match event {
             Event::Door => self.knock(),
             Event::Place(place) => {
-                self.turn(alloc, network, place, piece, page, ticks, desk, now);
+                self.turn(network, place, context, now);
             }
             Event::Parted(parted) => {
+                let piece = &mut *context.piece;
                 network.see_off(parted, &mut piece.bytes);
             }
         }

@@ -5,6 +5,9 @@ ghost use Rattle.base_devices.specs.Blanks.{IsBlankOf};
 ghost use Rattle.web_connection.specs.Run.{AtTick};
 ghost use Rattle.web_cli.specs.declared.fault.RunFault.TheVariants.{Listen};
 ghost use Rattle.web_turns.specs.Acts.{between};
+ghost use Rattle.web_turns.specs.Contexts.{KeepsLent};
+ghost use Rattle.web_turns.specs.Halls.{callers};
+ghost use Rattle.web_server.specs.Hosted.{HostsBy};
 ghost use Rattle.web_server.specs.Times.{EndsLate};
 ghost use Rattle.web_server.specs.Visits.{AnswersCallers, Clears, Hosts, RoundsEnd, most_of};
 
@@ -21,6 +24,7 @@ use std::time::{Clock, Instant};
 use web_cli::{Console, RunFault};
 use web_connection::{Desk, Piece};
 use web_sockets::{Ends, Network};
+use web_turns::Context;
 
 /// How much is heard at most before a house looks round.
 const AT_ONCE: u32 = 256;
@@ -105,25 +109,15 @@ fn hear_all<
     M: Ledger,
     T: Ticks,
     D: Desk + Attended,
->(
-    alloc: Global,
-    network: &mut N,
-    house: &mut House<'_, R, E>,
-    piece: &mut Piece,
-    page: &mut Device<Vec<u8>, L, M>,
-    ticks: &mut T,
-    desk: &mut D,
-    now: u64,
-)
+>(network: &mut N, house: &mut House<'_, R, E>, context: &mut Context<'_, L, M, T, D>, now: u64)
+    ensures keeps { KeepsLent context.old context.new }
     ensures listens { N.listens network.new ≡ N.listens network.old }
-    ensures hosts { Hosts (AtTick T.reads D.serves)
-        (between (T.told ticks.old) desk.old) (between (T.told ticks.new) desk.new)
-        house.old.hall house.new.hall house.old.left house.new.left
+    ensures hosts { HostsBy T.Ticks D.serves context.old context.new house.old house.new
         (N.came network.old) (N.came network.new) }
 {
     for _ in 0..AT_ONCE {
         match network.event() {
-            Some(event) => house.hear(alloc, network, event, piece, page, ticks, desk, now),
+            Some(event) => house.hear(network, event, context, now),
             None => break,
         }
     }
@@ -140,19 +134,14 @@ fn serve_round<
     T: Ticks,
     D: Desk + Attended,
 >(
-    alloc: Global,
     watch: &mut Watch<'_, R>,
     network: &mut N,
     house: &mut House<'_, R, E>,
-    piece: &mut Piece,
-    page: &mut Device<Vec<u8>, L, M>,
-    ticks: &mut T,
-    desk: &mut D,
+    context: &mut Context<'_, L, M, T, D>,
 ) -> Result<(), RunFault>
+    ensures keeps { KeepsLent context.old context.new }
     ensures listens { N.listens network.new ≡ N.listens network.old }
-    ensures hosts { Hosts (AtTick T.reads D.serves)
-        (between (T.told ticks.old) desk.old) (between (T.told ticks.new) desk.new)
-        house.old.hall house.new.hall house.old.left house.new.left
+    ensures hosts { HostsBy T.Ticks D.serves context.old context.new house.old house.new
         (N.came network.old) (N.came network.new) }
     ensures ends { IsOkUnless result Listen }
 {
@@ -161,9 +150,9 @@ fn serve_round<
         return Err(RunFault::Listen);
     }
     let now = watch.look();
-    hear_all(alloc, network, house, piece, page, ticks, desk, now);
+    hear_all(network, house, context, now);
     look_if_due(watch, house, network, now);
-    house.let_in(alloc, network, now)
+    house.let_in(context.alloc, network, now)
 }
 
 // Rounds, one after another, till all who were to be let in have come and gone.
@@ -176,19 +165,14 @@ fn serve_rounds<
     T: Ticks,
     D: Desk + Attended,
 >(
-    alloc: Global,
     watch: &mut Watch<'_, R>,
     network: &mut N,
     house: &mut House<'_, R, E>,
-    piece: &mut Piece,
-    page: &mut Device<Vec<u8>, L, M>,
-    ticks: &mut T,
-    desk: &mut D,
+    context: &mut Context<'_, L, M, T, D>,
 ) -> Result<(), RunFault>
+    ensures keeps { KeepsLent context.old context.new }
     ensures listens { N.listens network.new ≡ N.listens network.old }
-    ensures hosts { Hosts (AtTick T.reads D.serves)
-        (between (T.told ticks.old) desk.old) (between (T.told ticks.new) desk.new)
-        house.old.hall house.new.hall house.old.left house.new.left
+    ensures hosts { HostsBy T.Ticks D.serves context.old context.new house.old house.new
         (N.came network.old) (N.came network.new) }
     ensures ends { IsOkUnless result Listen }
 {
@@ -196,7 +180,7 @@ fn serve_rounds<
         if house.is_over(network) {
             break;
         }
-        match serve_round(alloc, watch, network, house, piece, page, ticks, desk) {
+        match serve_round(watch, network, house, context) {
             Ok(()) => {}
             Err(fault) => return Err(fault),
         }
@@ -204,39 +188,8 @@ fn serve_rounds<
     Ok(())
 }
 
-// Serves rounds, with room for what one read gives.
+// Serves rounds, with room for what one read gives, and with a ledger for each count of the page on which answers are written.
 #[tactic(auto, using(crate::proofs::VisitLemmas::rounds_end, crate::proofs::VisitLemmas::happened_none))]
-fn serve_house<
-    R: Clock + System + Console,
-    E: Ends,
-    N: Network<E>,
-    L: Ledger,
-    M: Ledger,
-    T: Ticks,
-    D: Desk + Attended,
->(
-    alloc: Global,
-    watch: &mut Watch<'_, R>,
-    network: &mut N,
-    house: &mut House<'_, R, E>,
-    page: &mut Device<Vec<u8>, L, M>,
-    ticks: &mut T,
-    desk: &mut D,
-) -> Result<(), RunFault>
-    ensures listens { N.listens network.new ≡ N.listens network.old }
-    ensures hosts { Hosts (AtTick T.reads D.serves)
-        (between (T.told ticks.old) desk.old) (between (T.told ticks.new) desk.new)
-        house.old.hall house.new.hall house.old.left house.new.left
-        (N.came network.old) (N.came network.new) }
-    ensures ends { RoundsEnd result house.old.hall house.new.hall }
-{
-    let Ok(mut piece) = Piece::new(alloc) else {
-        return Err(RunFault::Memory);
-    };
-    serve_rounds(alloc, watch, network, house, &mut piece, page, ticks, desk)
-}
-
-// Serves rounds, with a ledger for each count of the page on which answers are written.
 fn serve_with<
     R: Clock + System + Console,
     E: Ends,
@@ -268,7 +221,11 @@ fn serve_with<
         calls: Steps::<L>::new(blanks.0),
         failures: Steps::<M>::new(blanks.1),
     };
-    serve_house(alloc, watch, network, house, &mut page, ticks, desk)
+    let Ok(mut piece) = Piece::new(alloc) else {
+        return Err(RunFault::Memory);
+    };
+    let mut context = Context::new(alloc, &mut piece, &mut page, ticks, desk);
+    serve_rounds(watch, network, house, &mut context)
 }
 
 /// Answers so many callers, and for 0 without end, many of them at once. A caller that was gone before it was let in counts, and what becomes of one

@@ -1,16 +1,20 @@
 use Rattle.std.proofs.Common.{refl, ◌∙◌}
 use Rattle.web_connection.specs.Run.{AtTick}
-use Rattle.web_turns.specs.Acts.{between}
+use Rattle.web_turns.specs.Contexts.{between_at}
+use Rattle.web_turns.proofs.ContextLemmas.{kept_more, kept_same}
 use Rattle.web_server.proofs.VisitLemmas.{hosts_more, hosts_none}
 use Rattle.web_server.proofs.serving.hear_all.Goals as goal
 
 pub loop-init : goal.loop-init
-loop-init g c = (hosts_none (AtTick g.T.Ticks.reads g.D.Desk.serves) _ _ _ _ _ _ _ _ refl refl refl refl, refl)
+loop-init g c = (hosts_none (AtTick g.T.Ticks.reads g.D.Desk.serves) _ _ _ _ _ _ _ _ refl refl refl refl, refl, kept_same c.args.context.now)
 
 pub loop-preserved : goal.loop-preserved
 loop-preserved g c =
     let S = AtTick g.T.Ticks.reads g.D.Desk.serves in
-    let from = between (g.T.Ticks.told c.args.ticks.now) c.args.desk.now in
-    let mid = between (g.T.Ticks.told c.loop.ticks) c.loop.desk in
-    let to = between (g.T.Ticks.told c.hear.new.ticks) c.hear.new.desk in
-    (hosts_more S from mid to _ _ _ _ _ _ _ _ _ (rw (← c.event.ensures.came) at c.loop.invariant.0) c.hear.ensures.hosts, c.hear.ensures.listens ∙ c.event.ensures.listens ∙ c.loop.invariant.1)
+    let from = between_at g.T.Ticks c.args.context.now in
+    let mid = between_at g.T.Ticks c.loop.context in
+    let to = between_at g.T.Ticks c.hear.new.context in (
+      hosts_more S from mid to _ _ _ _ _ _ _ _ _ (rw (← c.event.ensures.came) at c.loop.invariant.0) c.hear.ensures.hosts,
+      c.hear.ensures.listens ∙ c.event.ensures.listens ∙ c.loop.invariant.1,
+      kept_more c.args.context.now c.loop.context c.hear.new.context c.loop.invariant.2 c.hear.ensures.keeps,
+    )

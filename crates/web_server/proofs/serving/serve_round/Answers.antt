@@ -1,14 +1,14 @@
 use Rattle.std.proofs.Common.{arith, refl}
 use Rattle.web_connection.specs.Run.{AtTick}
-use Rattle.web_turns.specs.Acts.{between}
+use Rattle.web_turns.specs.Contexts.{between_at}
 use Rattle.web_server.proofs.VisitLemmas.{hosts_more, hosts_none, hosts_of, reseats_clears, reseats_more}
 use Rattle.web_server.proofs.serving.serve_round.Goals as goal
 
 pub returns-clause-hosts : goal.returns-clause-hosts
 returns-clause-hosts g c =
     let S = AtTick g.T.Ticks.reads g.D.Desk.serves in
-    let from = between (g.T.Ticks.told c.args.ticks.now) c.args.desk.now in
-    let to = between (g.T.Ticks.told c.hear_all.new.ticks) c.hear_all.new.desk in
+    let from = between_at g.T.Ticks c.args.context.now in
+    let to = between_at g.T.Ticks c.hear_all.new.context in
     let look = c.look_if_due.ensures in
     hosts_more S from to to _ _ _ _ _ _ _ _ _ (rw c.wait.ensures.came at c.hear_all.ensures.hosts)
     (hosts_of S to to _ _ _ _ _ _ refl (reseats_more _ _ _ _ _ _ _ _ _ (reseats_clears _ _ _ _ _ _ look.clears (omega (arith, look.left)) look.came) c.let_in.ensures.reseats))

@@ -1,7 +1,7 @@
 use Rattle.std.proofs.Common.{refl}
 use Rattle.web_connection.specs.Run.{AtTick}
 use Rattle.web_server.proofs.VisitLemmas.{hosts_none}
-use Rattle.web_server.proofs.serving.serve_house.Goals as goal
+use Rattle.web_server.proofs.serving.serve_with.Goals as goal
 
 pub returns-in_default-clause-hosts : goal.returns-in_default-clause-hosts
 returns-in_default-clause-hosts g c = hosts_none (AtTick g.T.Ticks.reads g.D.Desk.serves) _ _ _ _ _ _ _ _ refl refl refl refl

@@ -1,0 +1,19 @@
+-- What callers do in a house, at the desk of a context.
+use Rattle.std.specs.Prelude.{List, Option}
+use Rattle.base_values.specs.declared.answer.Answer.{Answer}
+use Rattle.base_devices.specs.declared.device.Tick.{Tick}
+use Rattle.base_devices.specs.declared.device.Ticks as clock
+use Rattle.web_http.specs.Messages.{Message}
+use Rattle.web_connection.specs.Run.{AtTick}
+use Rattle.web_sockets.specs.Comers.{Begun}
+use Rattle.web_turns.specs.declared.context.Context.{Context}
+use Rattle.web_turns.specs.Contexts.{between_at}
+use Rattle.web_server.specs.declared.house.House.{House}
+use Rattle.web_server.specs.Visits.{Hosts}
+
+-- Callers come, have turns and leave in a house, of which so many were to be let in, and are still: each turn is at the desk of the context, at
+-- ticks of its clock. The network had shown some callers before, and has shown some behind.
+abbrev pub HostsBy : {L M T D R E : Type 0} → clock.Ghosts T → (D → Tick → Message → Answer → D → Type 0) → Context L M T D → Context L M T D → House R E → House R E → Option (List Begun)
+    → Option (List Begun) → Type 0
+HostsBy t serves context context' house house' shown seen =
+    Hosts (AtTick t.reads serves) (between_at t context) (between_at t context') house.hall house'.hall house.left house'.left shown seen
