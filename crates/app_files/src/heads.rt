@@ -27,7 +27,8 @@ pub fn begins_as_database(bytes: &[u8]) -> bool
 /// Whether bytes have, somewhere, what SQLite's list of tables has of a table `shop`.
 pub fn has_mark(bytes: &[u8]) -> bool
     ensures found { IsTrue result → (at : ℕ) × HasMarkAt bytes.now at }
-    ensures nowhere { result ≡ false → (at : ℕ) → at < length bytes.now → ¬ (HasMarkAt bytes.now at) }
+    ensures nowhere { result ≡ false → (at : ℕ) → at < length bytes.now
+        → ¬ (HasMarkAt bytes.now at) }
 {
     for at in 0..bytes.len() {
         if bytes[at..].starts_with(MARK) {
@@ -59,7 +60,8 @@ fn read_behind<R: Read>(reader: &mut R, piece: &mut [u8], kept: usize) -> io::Re
     ensures inside { IfOk result (λ n. kept + n ≤ length piece.new) }
     ensures behind { IfOk result (λ n. IsBehind (take kept piece.old) (take (kept + n) piece.new)
         (R.remaining reader.old) (R.remaining reader.new)) }
-    ensures ended { IfOk result (λ n. n ≡ 0 → kept < length piece.old → IsAtEnd (R.remaining reader.new)) }
+    ensures ended { IfOk result
+        (λ n. n ≡ 0 → kept < length piece.old → IsAtEnd (R.remaining reader.new)) }
 {
     match reader.read(&mut piece[kept..]) {
         Ok(n) => Ok(n),
