@@ -54,7 +54,7 @@ daemon-reload) ;;
   kill "$(cat ROOM/boxoffice.pid)"
   while runs boxoffice; do sleep 0.02; done ;;
 'unmask boxoffice') rm -f ROOM/masked ;;
-'reload nginx') if runs nginx; then nginx -s reload; else nginx; fi ;;
+'reload nginx') if runs nginx; then nginx -s reload 2> ROOM/reloaded; else nginx; fi ;;
 *) echo "systemctl $*: not played" >&2; exit 1 ;;
 esac
 """,
@@ -328,7 +328,7 @@ class Boots:
 
     def __init__(self, root, shared):
         # at most one: two would share the groups of processes that systemd makes
-        self.lock = open(f"{root}.lock", "w", encoding="utf-8")
+        self.lock = open("/run/boxoffice-guide.lock", "w", encoding="utf-8")
         fcntl.flock(self.lock, fcntl.LOCK_EX)
         self.log = open(f"{root}.log", "wb")
         words = ["systemd-nspawn", "-q", "-D", root, "--volatile=overlay", "--private-network", "--register=no", "--keep-unit", f"--bind-ro={shared}:/mnt", "-b"]
