@@ -86,17 +86,18 @@ pub fn serve_shop<F: HouseFiles, W: Drain>(
     ensures { OnPage W.Drain (ServesFile F.served line.entry.file.now line.entry.listen.now
         (option_map (λ t. t.now) line.entry.connections)) writer.old writer.new result }
 {
-    let (addr, connections) = match serve_values(line.listen, line.connections) {
-        Ok(values) => values,
-        Err(argument) => return Err(RunFault::Argument(argument)),
-    };
-    let place = Place {
-        addr,
-        text: line.listen,
-        connections,
-        log: line.log,
-    };
-    files.serve(alloc, line.file, &place, writer)
+    match serve_values(line.listen, line.connections) {
+        Ok((addr, connections)) => {
+            let place = Place {
+                addr,
+                text: line.listen,
+                connections,
+                log: line.log,
+            };
+            files.serve(alloc, line.file, &place, writer)
+        }
+        Err(argument) => Err(RunFault::Argument(argument)),
+    }
 }
 
 /// `periodic`: does the periodic work of the shop in a file, and says what was done, `expired E, deleted D, sent S`.
