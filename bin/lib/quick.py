@@ -24,9 +24,9 @@ KEPT = f"{rooms.TOP}/out/quick"
 PROVED = f"{rooms.folder(NAME)}/out/{NAME}"
 # What it was seen to take, at 2.7 GHz: seconds of a processor, and how many processors are used at once.
 READING = [(150, 1)]
-COMPILING = [(80, 1), (85, rooms.processors())]
-# Of an order to a served shop (callgrind): 5.4 million instructions, and 0.53 million of the proved program.
-SLOWER = "an order takes ten times the instructions"
+COMPILING = [(130, 1), (85, rooms.processors())]
+# Of an order to a served shop (callgrind): 2.7 million instructions, and 0.53 million of the proved program.
+SLOWER = "an order takes five times the instructions"
 STOPS = (signal.SIGINT, signal.SIGTERM, signal.SIGHUP)
 # Seconds between two lines on how far it is.
 EACH = 15
@@ -151,7 +151,7 @@ def compile_it(program, total):
     try:
         with Progress() as watch:
             watch.clock.say(f"it is compiled, once, without proof: {about(watch.left())} on an idle machine")
-            unproved.compiled(program, f"{new}/{NAME}", "FIRST", watch)
+            unproved.compiled(program, f"{new}/{NAME}", "-O1", watch)
         with open(f"{new}/proof", "w", encoding="ascii") as it:
             it.write(about(60 * minutes()))
         shutil.rmtree(f"{KEPT}/{total}", ignore_errors=True)
