@@ -2,6 +2,7 @@
 #![tactic(auto)]
 
 pub mod clock;
+pub mod host;
 mod house;
 pub mod listening;
 pub mod log;
@@ -12,6 +13,7 @@ pub mod street;
 mod times;
 
 pub use clock::{ClockTicks, System, read_tick};
+pub use host::Host;
 pub use listening::{serve_at, serve_street};
 pub use log::Log;
 pub use noted::{Attended, Noted};

@@ -9,6 +9,7 @@ ghost use Rattle.web_server.specs.Clock.{IsRead};
 ghost use Rattle.web_server.specs.Visits.{AnswersCallers, between, most_of};
 
 use crate::clock::{ClockTicks, System};
+use crate::host::Host;
 use crate::log::Log;
 use crate::noted::Attended;
 use crate::serving::serve_callers;
@@ -33,9 +34,7 @@ fn serve_network<
     N: Network<E>,
     D: Desk + Attended,
 >(
-    rt: &R,
-    alloc: Global,
-    log: &Log<'_, R>,
+    host: &Host<'_, R>,
     network: &mut N,
     connections: u64,
     desk: &mut D,
@@ -48,17 +47,16 @@ fn serve_network<
         (N.came network.new) result }
 {
     let failures = Steps::<M>::new(blank);
+    let rt = host.rt;
     let mut ticks = ClockTicks::<R, M> { rt, failures };
-    serve_callers(alloc, rt, log, network, connections, &mut ticks, desk)
+    serve_callers(host, network, connections, &mut ticks, desk)
 }
 
 /// Listens at an address, says so, and answers the callers that come, many of them at once, by the system's clock and its draws. Faults: 81
 /// where the address can't be listened at, and then nothing is said; 83 where that couldn't be said, and then nobody is answered; 81 and 6
 /// as `serve_callers`.
 pub fn serve_at<R: Clock + System + Console, E: Ends, N: Network<E>, D: Desk + Attended, W: Drain>(
-    rt: &R,
-    alloc: Global,
-    log: &Log<'_, R>,
+    host: &Host<'_, R>,
     network: &mut N,
     place: &Place<'_>,
     desk: &mut D,
@@ -77,9 +75,7 @@ pub fn serve_at<R: Clock + System + Console, E: Ends, N: Network<E>, D: Desk + A
     };
     match say(writer, b"listening on ", place.text.as_bytes()) {
         Ok(()) => serve_network::<Brand, R, E, N, D>(
-            rt,
-            alloc,
-            log,
+            host,
             network,
             place.connections,
             desk,
@@ -116,8 +112,9 @@ pub fn serve_street<
     let Ok(registry) = poll.registry().try_clone() else {
         return Err(RunFault::Listen);
     };
+    let host = Host::new(rt, alloc, log);
     match Street::new(alloc, rt, poll, &registry) {
-        Ok(mut street) => serve_at(rt, alloc, log, &mut street, place, desk, writer),
+        Ok(mut street) => serve_at(&host, &mut street, place, desk, writer),
         Err(_) => Err(RunFault::Memory),
     }
 }

@@ -6,18 +6,16 @@ ghost use Rattle.web_connection.specs.Run.{AtTick};
 ghost use Rattle.web_cli.specs.declared.fault.RunFault.TheVariants.{Listen};
 ghost use Rattle.web_turns.specs.Acts.{between};
 ghost use Rattle.web_turns.specs.Contexts.{KeepsLent};
-ghost use Rattle.web_turns.specs.Halls.{callers};
 ghost use Rattle.web_server.specs.Hosted.{HostsBy};
 ghost use Rattle.web_server.specs.Times.{EndsLate};
 ghost use Rattle.web_server.specs.Visits.{AnswersCallers, Clears, Hosts, RoundsEnd, most_of};
 
 use crate::clock::System;
+use crate::host::Host;
 use crate::house::House;
-use crate::log::Log;
 use crate::noted::Attended;
 use base_devices::{Device, Ticks};
 use base_values::Steps;
-use std::alloc::Global;
 use std::marker::Brand;
 use std::sync::ledger::{Blank, Ledger};
 use std::time::{Clock, Instant};
@@ -189,7 +187,7 @@ fn serve_rounds<
 }
 
 // Serves rounds, with room for what one read gives, and with a ledger for each count of the page on which answers are written.
-#[tactic(auto, using(crate::proofs::VisitLemmas::rounds_end, crate::proofs::VisitLemmas::happened_none))]
+#[tactic(auto, using(crate::proofs::VisitLemmas::rounds_end, crate::proofs::VisitLemmas::happened_none, crate::proofs::VisitLemmas::hosts_none))]
 fn serve_with<
     R: Clock + System + Console,
     E: Ends,
@@ -199,8 +197,7 @@ fn serve_with<
     T: Ticks,
     D: Desk + Attended,
 >(
-    alloc: Global,
-    watch: &mut Watch<'_, R>,
+    host: &Host<'_, R>,
     network: &mut N,
     house: &mut House<'_, R, E>,
     ticks: &mut T,
@@ -216,16 +213,25 @@ fn serve_with<
         (N.came network.old) (N.came network.new) }
     ensures ends { RoundsEnd result house.old.hall house.new.hall }
 {
+    let Ok(start) = Instant::now(host.rt) else {
+        return Err(RunFault::Listen);
+    };
+    let mut watch = Watch {
+        clock: host.rt,
+        start,
+        now: 0,
+        looked: 0,
+    };
     let mut page = Device {
-        inner: Vec::new(alloc),
+        inner: Vec::new(host.alloc),
         calls: Steps::<L>::new(blanks.0),
         failures: Steps::<M>::new(blanks.1),
     };
-    let Ok(mut piece) = Piece::new(alloc) else {
+    let Ok(mut piece) = Piece::new(host.alloc) else {
         return Err(RunFault::Memory);
     };
-    let mut context = Context::new(alloc, &mut piece, &mut page, ticks, desk);
-    serve_rounds(watch, network, house, &mut context)
+    let mut context = Context::new(host.alloc, &mut piece, &mut page, ticks, desk);
+    serve_rounds(&mut watch, network, house, &mut context)
 }
 
 /// Answers so many callers, and for 0 without end, many of them at once. A caller that was gone before it was let in counts, and what becomes of one
@@ -239,9 +245,7 @@ pub fn serve_callers<
     T: Ticks,
     D: Desk + Attended,
 >(
-    alloc: Global,
-    rt: &R,
-    log: &Log<'_, R>,
+    host: &Host<'_, R>,
     network: &mut N,
     connections: u64,
     ticks: &mut T,
@@ -252,19 +256,9 @@ pub fn serve_callers<
         (between (T.told ticks.old) desk.old) (between (T.told ticks.new) desk.new)
         (N.came network.old) (N.came network.new) result }
 {
-    let Ok(start) = Instant::now(rt) else {
-        return Err(RunFault::Listen);
-    };
-    let mut watch = Watch {
-        clock: rt,
-        start,
-        now: 0,
-        looked: 0,
-    };
-    match House::<R, E>::new(alloc, log, most_of(connections)) {
+    match House::<R, E>::new(host.alloc, host.log, most_of(connections)) {
         Ok(mut house) => serve_with::<R, E, N, Brand, Brand, T, D>(
-            alloc,
-            &mut watch,
+            host,
             network,
             &mut house,
             ticks,

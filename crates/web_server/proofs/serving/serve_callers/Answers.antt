@@ -1,4 +1,4 @@
-use Rattle.std.proofs.Common.{arith, inl, inr, refl, subst}
+use Rattle.std.proofs.Common.{arith, inr, refl, subst}
 use Rattle.web_connection.specs.Run.{AtTick}
 use Rattle.web_turns.specs.Acts.{between}
 use Rattle.web_turns.specs.Halls.{Callers}
@@ -6,20 +6,17 @@ use Rattle.web_server.specs.Visits.{RoundsEnd, most_of}
 use Rattle.web_server.proofs.VisitLemmas.{answers_all, answers_none}
 use Rattle.web_server.proofs.serving.serve_callers.Goals as goal
 
-pub returns-in-Ok-new-clause-answers : goal.returns-in-Ok-new-clause-answers
-returns-in-Ok-new-clause-answers g c =
+pub returns-in-Ok-clause-answers : goal.returns-in-Ok-clause-answers
+returns-in-Ok-clause-answers g c =
     let S = AtTick g.T.Ticks.reads g.D.Desk.serves in
     let from = between (g.T.Ticks.told c.args.ticks.now) c.args.desk.now in
     let to = between (g.T.Ticks.told c.serve_with.new.ticks) c.serve_with.new.desk in
     let hall = c.serve_with.new.house.hall in
-    let count = rw (c.in-Ok-new.ensures.hall, c.in-Ok-new.ensures.left) at c.serve_with.ensures.hosts.count in
+    let count = rw (c.in-Ok.ensures.hall, c.in-Ok.ensures.left) at c.serve_with.ensures.hosts.count in
     answers_all S from to 128 (most_of c.args.connections) _ _ hall _ _ c.serve_with.result
     (omega (arith, count))
-    (rw c.in-Ok-new.ensures.hall at c.serve_with.ensures.hosts)
-    (subst (λ (h : Callers). RoundsEnd c.serve_with.result h hall) c.in-Ok-new.ensures.hall c.serve_with.ensures.ends)
+    (rw c.in-Ok.ensures.hall at c.serve_with.ensures.hosts)
+    (subst (λ (h : Callers). RoundsEnd c.serve_with.result h hall) c.in-Ok.ensures.hall c.serve_with.ensures.ends)
 
 pub returns-in-Err-clause-answers : goal.returns-in-Err-clause-answers
 returns-in-Err-clause-answers g c = answers_none (AtTick g.T.Ticks.reads g.D.Desk.serves) _ _ _ _ _ _ refl refl (inr refl)
-
-pub returns-in_default-clause-answers : goal.returns-in_default-clause-answers
-returns-in_default-clause-answers g c = answers_none (AtTick g.T.Ticks.reads g.D.Desk.serves) _ _ _ _ _ _ refl refl (inl refl)
