@@ -6,7 +6,7 @@ use Rattle.office_deliveries.specs.Histories.{Event, Running}
 use Rattle.web_http.specs.Messages.{Message}
 use Rattle.web_cli.specs.declared.fault.RunFault.{RunFault}
 use Rattle.web_handler.specs.Streams.{DeskView, House, Meaning}
-use Rattle.web_server.specs.Visits.{AnswersCallers, Served}
+use Rattle.web_server.specs.Rounds.{AnswersCallers, Served}
 use Rattle.web_turns.specs.Acts.{Between}
 use Rattle.web_turns.specs.Halls.{Hall}
 use Rattle.app_files.specs.Evening.{RunsSo}

@@ -37,7 +37,7 @@ ghost use Rattle.file_scan.specs.declared.error.OpenError.{OpenError};
 ghost use Rattle.web_arrivals.specs.Deliveries.{Delivery, Opening};
 ghost use Rattle.web_arrivals.specs.Seen.{HasList};
 ghost use Rattle.web_arrivals.specs.Streams.{ServesHistory, ServesList};
-ghost use Rattle.web_server.specs.Visits.{AnswersCallers, most_of};
+ghost use Rattle.web_server.specs.Rounds.{AnswersCallers, most_of};
 ghost use Rattle.file_tables.specs.declared.sql.SqlTables.{SqlTables};
 ghost use Rattle.web_turns.specs.Acts.{Between, between, seen_at};
 ghost use Rattle.web_turns.specs.Halls.{Hall, Story};

@@ -1,2 +1,2 @@
-mod PlaceLemmas
-mod VisitLemmas
+mod GivingWayLemmas
+mod RoundLemmas

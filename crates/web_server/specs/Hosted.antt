@@ -8,12 +8,12 @@ use Rattle.web_connection.specs.Run.{AtTick}
 use Rattle.web_sockets.specs.Comers.{Begun}
 use Rattle.web_turns.specs.declared.context.Context.{Context}
 use Rattle.web_turns.specs.Contexts.{between_at}
-use Rattle.web_server.specs.declared.house.House.{House}
-use Rattle.web_server.specs.Visits.{Hosts}
+use Rattle.web_server.specs.declared.server.Server.{Server}
+use Rattle.web_server.specs.Rounds.{Hosts}
 
 -- Callers come, have turns and leave in a house, of which so many were to be let in, and are still: each turn is at the desk of the context, at
 -- ticks of its clock. The network had shown some callers before, and has shown some behind.
-abbrev pub HostsBy : {L M T D R E : Type 0} → clock.Ghosts T → (D → Tick → Message → Answer → D → Type 0) → Context L M T D → Context L M T D → House R E → House R E → Option (List Begun)
+abbrev pub HostsBy : {L M T D R E : Type 0} → clock.Ghosts T → (D → Tick → Message → Answer → D → Type 0) → Context L M T D → Context L M T D → Server R E → Server R E → Option (List Begun)
     → Option (List Begun) → Type 0
-HostsBy t serves context context' house house' shown seen =
-    Hosts (AtTick t.reads serves) (between_at t context) (between_at t context') house.hall house'.hall house.left house'.left shown seen
+HostsBy t serves context context' server server' shown seen =
+    Hosts (AtTick t.reads serves) (between_at t context) (between_at t context') server.hall server'.hall server.left server'.left shown seen

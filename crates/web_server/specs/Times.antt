@@ -3,28 +3,28 @@ use Rattle.std.specs.Prelude.{◌≡◌, ◌+◌, ◌-◌, ◌^◌, ◌<◌, ◌
 use Rattle.web_turns.specs.declared.stage.Needs.{Needs}
 use Rattle.web_turns.specs.declared.stage.Needs.TheVariants as needs
 use Rattle.web_turns.specs.Halls.{Caller, Callers, at_place, place_needs}
-use Rattle.web_server.specs.declared.times.Crowd.{Crowd}
-use Rattle.web_server.specs.declared.times.Since.{Since}
+use Rattle.web_server.specs.declared.times.Load.{Load}
+use Rattle.web_server.specs.declared.times.Timer.{Timer}
 
 -- a count and one more, up to the greatest number of 64 bits
 abbrev pub one_more : ℕ → ℕ
 one_more n = min (n + 1) (2 ^ 64 - 1)
 
 -- whoever waits for bytes is within a request, once it began, or else between two
-abbrev pub crowd_of_waiting : Option ℕ → Crowd → Crowd
-crowd_of_waiting None crowd = record crowd { between = one_more crowd.between }
-crowd_of_waiting (Some began) crowd = record crowd { within = one_more crowd.within }
+abbrev pub load_of_waiting : Option ℕ → Load → Load
+load_of_waiting None load = record load { between = one_more load.between }
+load_of_waiting (Some began) load = record load { within = one_more load.within }
 
 -- whoever has bytes unsent is of the third group; whoever may have another message there is of none
-abbrev pub crowd_of_room : Option ℕ → Crowd → Crowd
-crowd_of_room None crowd = crowd
-crowd_of_room (Some unsent) crowd = record crowd { unsent = one_more crowd.unsent }
+abbrev pub load_of_sending : Option ℕ → Load → Load
+load_of_sending None load = load
+load_of_sending (Some unsent) load = record load { unsent = one_more load.unsent }
 
 -- the crowd with one caller more
-abbrev pub crowd_with : Since → Needs → Crowd → Crowd
-crowd_with since needs.Bytes crowd = crowd_of_waiting since.began crowd
-crowd_with since needs.Room crowd = crowd_of_room since.unsent crowd
-crowd_with since needs.Nothing crowd = crowd
+abbrev pub load_with : Timer → Needs → Load → Load
+load_with timer needs.Bytes load = load_of_waiting timer.began load
+load_with timer needs.Room load = load_of_sending timer.unsent load
+load_with timer needs.Nothing load = load
 
 -- a minute for the next request to begin, and half a minute for one that began to be whole
 abbrev pub takes_too_long : Option ℕ → ℕ → ℕ → Bool
@@ -38,10 +38,10 @@ sends_too_long (Some unsent) now = nat_le 30000 (now - unsent)
 
 -- The time is up of whoever takes too long; or who takes no part of an answer for ten seconds, or has had bytes unsent for half a minute without a
 -- break.
-abbrev pub is_up : Since → Needs → ℕ → Bool
-is_up since needs.Bytes now = takes_too_long since.began since.waits now
-is_up since needs.Room now = nat_le 10000 (now - since.waits) || sends_too_long since.unsent now
-is_up since needs.Nothing now = false
+abbrev pub is_up : Timer → Needs → ℕ → Bool
+is_up timer needs.Bytes now = takes_too_long timer.began timer.waits now
+is_up timer needs.Room now = nat_le 10000 (now - timer.waits) || sends_too_long timer.unsent now
+is_up timer needs.Nothing now = false
 
 -- since when a request is on its way behind a turn: whoever waited for bytes, and does still, is within one
 abbrev pub began_if : Needs → Option ℕ → ℕ → Option ℕ
@@ -61,25 +61,25 @@ unsent_after true unsent now = Some (unwrap_or unsent now)
 unsent_after false unsent now = None
 
 -- since when a caller waits behind a turn
-abbrev pub since_behind : Since → Needs → Needs → Bool → ℕ → Since
-since_behind since before after unsent now = record { waits = now; began = began_after before after since.began now; unsent = unsent_after unsent since.unsent now }
+abbrev pub timer_after : Timer → Needs → Needs → Bool → ℕ → Timer
+timer_after timer before after unsent now = record { waits = now; began = began_after before after timer.began now; unsent = unsent_after unsent timer.unsent now }
 
 -- since when callers wait, with what is so of the caller at a place behind its turn; where its conversation is over nothing is kept
-abbrev pub noted_at : ℕ → Option Since → Needs → Needs → Bool → ℕ → List Since → List Since
-noted_at place found before needs.Nothing unsent now since = since
-noted_at place None before after unsent now since = since
-noted_at place (Some s) before after unsent now since = slice_set since place (since_behind s before after unsent now)
+abbrev pub timers_after : ℕ → Option Timer → Needs → Needs → Bool → ℕ → List Timer → List Timer
+timers_after place found before needs.Nothing unsent now timer = timer
+timers_after place None before after unsent now timer = timer
+timers_after place (Some s) before after unsent now timer = slice_set timer place (timer_after s before after unsent now)
 
 -- whoever is at a place is late if its time is up; a free place needs nothing
-abbrev pub is_late : Option Since → ℕ → Option Caller → Bool
+abbrev pub is_late : Option Timer → ℕ → Option Caller → Bool
 is_late None now whoever = false
-is_late (Some since) now whoever = is_up since (place_needs whoever) now
+is_late (Some timer) now whoever = is_up timer (place_needs whoever) now
 
 -- who is at a place behind a look at it
-abbrev pub stays : Option Since → ℕ → Option Caller → Option Caller
-stays since now whoever = if is_late since now whoever then None else whoever
+abbrev pub stays : Option Timer → ℕ → Option Caller → Option Caller
+stays timer now whoever = if is_late timer now whoever then None else whoever
 
 -- A look at all 128 places: those leave whose time is up, and nobody else.
-pub record EndsLate (since : List Since) (now : ℕ) (old new : Callers) : Type 0 where
+pub record EndsLate (timer : List Timer) (now : ℕ) (old new : Callers) : Type 0 where
   pub came : new.came ≡ old.came
-  pub places : (place : ℕ) → place < 128 → at_place place new ≡ stays (slice_get since place) now (at_place place old)
+  pub places : (place : ℕ) → place < 128 → at_place place new ≡ stays (slice_get timer place) now (at_place place old)

@@ -3,7 +3,7 @@
 
 pub mod clock;
 pub mod host;
-mod house;
+mod server;
 pub mod listening;
 pub mod log;
 pub mod noted;

@@ -6,7 +6,7 @@ ghost use Rattle.web_http.specs.Written.{writer_page};
 ghost use Rattle.web_connection.specs.Run.{AtTick};
 ghost use Rattle.web_cli.specs.Saying.{TellsListening};
 ghost use Rattle.web_server.specs.Clock.{IsRead};
-ghost use Rattle.web_server.specs.Visits.{AnswersCallers, between, most_of};
+ghost use Rattle.web_server.specs.Rounds.{AnswersCallers, between, most_of};
 
 use crate::clock::{ClockTicks, System};
 use crate::host::Host;

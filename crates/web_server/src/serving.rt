@@ -8,11 +8,11 @@ ghost use Rattle.web_turns.specs.Acts.{between};
 ghost use Rattle.web_turns.specs.Contexts.{KeepsLent};
 ghost use Rattle.web_server.specs.Hosted.{HostsBy};
 ghost use Rattle.web_server.specs.Times.{EndsLate};
-ghost use Rattle.web_server.specs.Visits.{AnswersCallers, Clears, Hosts, RoundsEnd, most_of};
+ghost use Rattle.web_server.specs.Rounds.{AnswersCallers, Clears, Hosts, RoundsEnd, most_of};
 
 use crate::clock::System;
 use crate::host::Host;
-use crate::house::House;
+use crate::server::Server;
 use crate::noted::Attended;
 use base_devices::{Device, Ticks};
 use base_values::Steps;
@@ -78,27 +78,27 @@ fn most_of(connections: u64) -> u64
 }
 
 // Looks round where that is due.
-#[tactic(auto, using(crate::proofs::VisitLemmas::clears_none))]
+#[tactic(auto, using(crate::proofs::RoundLemmas::clears_none))]
 fn look_if_due<R: Clock + System + Console, E: Ends, N: Network<E>>(
     watch: &mut Watch<'_, R>,
-    house: &mut House<'_, R, E>,
+    server: &mut Server<'_, R, E>,
     network: &mut N,
     now: u64,
 )
     ensures listens { N.listens network.new ≡ N.listens network.old }
     ensures late { nat_le 250 (watch.old.now - watch.old.looked) ≡ true
-        → EndsLate house.old.since.items now house.old.hall house.new.hall }
-    ensures clears { Clears house.old.hall house.new.hall }
-    ensures left { house.new.left ≡ house.old.left }
+        → EndsLate server.old.timers.items now server.old.hall server.new.hall }
+    ensures clears { Clears server.old.hall server.new.hall }
+    ensures left { server.new.left ≡ server.old.left }
     ensures came { N.came network.new ≡ N.came network.old }
 {
     if watch.is_due() {
-        house.look_round(network, now);
+        server.look_round(network, now);
     }
 }
 
 // Hears all that was to be heard.
-#[tactic(auto, using(crate::proofs::VisitLemmas::happened_none))]
+#[tactic(auto, using(crate::proofs::RoundLemmas::happened_none))]
 fn hear_all<
     R: Clock + System + Console,
     E: Ends,
@@ -107,22 +107,22 @@ fn hear_all<
     M: Ledger,
     T: Ticks,
     D: Desk + Attended,
->(network: &mut N, house: &mut House<'_, R, E>, context: &mut Context<'_, L, M, T, D>, now: u64)
+>(network: &mut N, server: &mut Server<'_, R, E>, context: &mut Context<'_, L, M, T, D>, now: u64)
     ensures keeps { KeepsLent context.old context.new }
     ensures listens { N.listens network.new ≡ N.listens network.old }
-    ensures hosts { HostsBy T.Ticks D.serves context.old context.new house.old house.new
+    ensures hosts { HostsBy T.Ticks D.serves context.old context.new server.old server.new
         (N.came network.old) (N.came network.new) }
 {
     for _ in 0..AT_ONCE {
         match network.event() {
-            Some(event) => house.hear(network, event, context, now),
+            Some(event) => server.hear(network, event, context, now),
             None => break,
         }
     }
 }
 
 // A round: hears what happened, and lets in who is at the door.
-#[tactic(auto, using(crate::proofs::VisitLemmas::happened_none))]
+#[tactic(auto, using(crate::proofs::RoundLemmas::happened_none))]
 fn serve_round<
     R: Clock + System + Console,
     E: Ends,
@@ -134,23 +134,23 @@ fn serve_round<
 >(
     watch: &mut Watch<'_, R>,
     network: &mut N,
-    house: &mut House<'_, R, E>,
+    server: &mut Server<'_, R, E>,
     context: &mut Context<'_, L, M, T, D>,
 ) -> Result<(), RunFault>
     ensures keeps { KeepsLent context.old context.new }
     ensures listens { N.listens network.new ≡ N.listens network.old }
-    ensures hosts { HostsBy T.Ticks D.serves context.old context.new house.old house.new
+    ensures hosts { HostsBy T.Ticks D.serves context.old context.new server.old server.new
         (N.came network.old) (N.came network.new) }
     ensures ends { IsOkUnless result Listen }
 {
-    let most = if house.has_comer(watch.now) { 0 } else { ROUND };
+    let most = if server.has_comer(watch.now) { 0 } else { ROUND };
     if network.wait(most).is_err() {
         return Err(RunFault::Listen);
     }
     let now = watch.look();
-    hear_all(network, house, context, now);
-    look_if_due(watch, house, network, now);
-    house.let_in(context.alloc, network, now)
+    hear_all(network, server, context, now);
+    look_if_due(watch, server, network, now);
+    server.let_in(context.alloc, network, now)
 }
 
 // Rounds, one after another, till all who were to be let in have come and gone.
@@ -165,20 +165,20 @@ fn serve_rounds<
 >(
     watch: &mut Watch<'_, R>,
     network: &mut N,
-    house: &mut House<'_, R, E>,
+    server: &mut Server<'_, R, E>,
     context: &mut Context<'_, L, M, T, D>,
 ) -> Result<(), RunFault>
     ensures keeps { KeepsLent context.old context.new }
     ensures listens { N.listens network.new ≡ N.listens network.old }
-    ensures hosts { HostsBy T.Ticks D.serves context.old context.new house.old house.new
+    ensures hosts { HostsBy T.Ticks D.serves context.old context.new server.old server.new
         (N.came network.old) (N.came network.new) }
     ensures ends { IsOkUnless result Listen }
 {
     for _ in 0..u64::MAX {
-        if house.is_over(network) {
+        if server.is_over(network) {
             break;
         }
-        match serve_round(watch, network, house, context) {
+        match serve_round(watch, network, server, context) {
             Ok(()) => {}
             Err(fault) => return Err(fault),
         }
@@ -187,7 +187,7 @@ fn serve_rounds<
 }
 
 // Serves rounds, with room for what one read gives, and with a ledger for each count of the page on which answers are written.
-#[tactic(auto, using(crate::proofs::VisitLemmas::rounds_end, crate::proofs::VisitLemmas::happened_none, crate::proofs::VisitLemmas::hosts_none))]
+#[tactic(auto, using(crate::proofs::RoundLemmas::rounds_end, crate::proofs::RoundLemmas::happened_none, crate::proofs::RoundLemmas::hosts_none))]
 fn serve_with<
     R: Clock + System + Console,
     E: Ends,
@@ -199,7 +199,7 @@ fn serve_with<
 >(
     host: &Host<'_, R>,
     network: &mut N,
-    house: &mut House<'_, R, E>,
+    server: &mut Server<'_, R, E>,
     ticks: &mut T,
     desk: &mut D,
     blanks: (Blank, Blank),
@@ -209,9 +209,9 @@ fn serve_with<
     ensures listens { N.listens network.new ≡ N.listens network.old }
     ensures hosts { Hosts (AtTick T.reads D.serves)
         (between (T.told ticks.old) desk.old) (between (T.told ticks.new) desk.new)
-        house.old.hall house.new.hall house.old.left house.new.left
+        server.old.hall server.new.hall server.old.left server.new.left
         (N.came network.old) (N.came network.new) }
-    ensures ends { RoundsEnd result house.old.hall house.new.hall }
+    ensures ends { RoundsEnd result server.old.hall server.new.hall }
 {
     let Ok(start) = Instant::now(host.rt) else {
         return Err(RunFault::Listen);
@@ -231,7 +231,7 @@ fn serve_with<
         return Err(RunFault::Memory);
     };
     let mut context = Context::new(host.alloc, &mut piece, &mut page, ticks, desk);
-    serve_rounds(&mut watch, network, house, &mut context)
+    serve_rounds(&mut watch, network, server, &mut context)
 }
 
 /// Answers so many callers, and for 0 without end, many of them at once. A caller that was gone before it was let in counts, and what becomes of one
@@ -256,11 +256,11 @@ pub fn serve_callers<
         (between (T.told ticks.old) desk.old) (between (T.told ticks.new) desk.new)
         (N.came network.old) (N.came network.new) result }
 {
-    match House::<R, E>::new(host.alloc, host.log, most_of(connections)) {
-        Ok(mut house) => serve_with::<R, E, N, Brand, Brand, T, D>(
+    match Server::<R, E>::new(host.alloc, host.log, most_of(connections)) {
+        Ok(mut server) => serve_with::<R, E, N, Brand, Brand, T, D>(
             host,
             network,
-            &mut house,
+            &mut server,
             ticks,
             desk,
             (Blank::new(1), Blank::new(1)),

@@ -2,7 +2,7 @@
 
 ghost use Rattle.std.specs.Prelude.{◌≡◌, None, IfOk};
 
-use crate::house::PLACES;
+use crate::server::PLACES;
 use crate::parting::Partings;
 use base_devices::Refused;
 use mio::net::TcpListener;

@@ -1,8 +1,8 @@
 //! How long a house waits for a caller.
 
 ghost use Rattle.std.specs.Prelude.{◌≡◌, ◌&&◌, ◌||◌, None, Some, nat_lt, IfSome};
-ghost use Rattle.web_server.specs.Places.{MayGo, beyond, readiness_of};
-ghost use Rattle.web_server.specs.Times.{crowd_with, is_up, sends_too_long, since_behind};
+ghost use Rattle.web_server.specs.GivingWay.{MayGo, beyond, readiness_of};
+ghost use Rattle.web_server.specs.Times.{load_with, is_up, sends_too_long, timer_after};
 
 use web_turns::Needs;
 
@@ -29,18 +29,18 @@ const IDLE: u64 = 1 << 63;
 
 /// How many callers are between two requests, and how many within one.
 #[derive(Clone, Copy, Drop, PartialEq, Eq)]
-pub(crate) struct Crowd {
+pub(crate) struct Load {
     between: u64,
     within: u64,
     unsent: u64,
 }
 
-impl Crowd {
+impl Load {
     /// Nobody yet.
-    pub(crate) fn new() -> Crowd
+    pub(crate) fn new() -> Load
         ensures { result ≡ record { between = 0; within = 0; unsent = 0 } }
     {
-        Crowd {
+        Load {
             between: 0,
             within: 0,
             unsent: 0,
@@ -48,17 +48,17 @@ impl Crowd {
     }
 
     /// A crowd with one caller more. Whoever has an answer underway is in neither group.
-    pub(crate) fn with(self, since: Since, needs: Needs) -> Crowd
-        ensures { result ≡ crowd_with since needs self }
+    pub(crate) fn with(self, timer: Timer, needs: Needs) -> Load
+        ensures { result ≡ load_with timer needs self }
     {
-        let mut crowd = self;
-        match (needs, since.began, since.unsent) {
-            (Needs::Bytes, None, _) => crowd.between = crowd.between.saturating_add(1),
-            (Needs::Bytes, Some(_), _) => crowd.within = crowd.within.saturating_add(1),
-            (Needs::Room, _, Some(_)) => crowd.unsent = crowd.unsent.saturating_add(1),
+        let mut load = self;
+        match (needs, timer.began, timer.unsent) {
+            (Needs::Bytes, None, _) => load.between = load.between.saturating_add(1),
+            (Needs::Bytes, Some(_), _) => load.within = load.within.saturating_add(1),
+            (Needs::Room, _, Some(_)) => load.unsent = load.unsent.saturating_add(1),
             _ => {}
         }
-        crowd
+        load
     }
 
     // Whether another group is greater than those between two requests.
@@ -78,19 +78,19 @@ impl Crowd {
 
 /// Since when a caller waits for what it waits for, and since when its request is on its way. In milliseconds, as all moments here.
 #[derive(Clone, Copy, Drop, PartialEq, Eq)]
-pub(crate) struct Since {
+pub(crate) struct Timer {
     waits: u64,
     began: Option<u64>,
     unsent: Option<u64>,
 }
 
-impl Since {
+impl Timer {
     /// A caller that came at that moment. It is within its first request from then on, also where it sent nothing yet: else callers that send nothing
     /// would take the places of those who pause between two requests.
-    pub(crate) fn new(now: u64) -> Since
+    pub(crate) fn new(now: u64) -> Timer
         ensures { result ≡ record { waits = now; began = Some now; unsent = None } }
     {
-        Since {
+        Timer {
             waits: now,
             began: Some(now),
             unsent: None,
@@ -98,8 +98,8 @@ impl Since {
     }
 
     /// Since when a caller waits behind a turn. Whoever waited for bytes, and does still, is within a request.
-    pub(crate) fn behind(self, before: Needs, after: Needs, unsent: bool, now: u64) -> Since
-        ensures { result ≡ since_behind self before after unsent now }
+    pub(crate) fn behind(self, before: Needs, after: Needs, unsent: bool, now: u64) -> Timer
+        ensures { result ≡ timer_after self before after unsent now }
     {
         let began = match (before, after) {
             (Needs::Bytes, Needs::Bytes) => Some(self.began.unwrap_or(now)),
@@ -109,7 +109,7 @@ impl Since {
             true => Some(self.unsent.unwrap_or(now)),
             false => None,
         };
-        Since {
+        Timer {
             waits: now,
             began,
             unsent,
@@ -142,16 +142,16 @@ impl Since {
     /// How readily its place is given to another caller, none where it isn't, as within a grace. The one to go is of the greater group: where more
     /// callers are within a request than between two, nobody goes who is between two, and whose request began first goes first; else whoever has
     /// waited longest between two goes first, and after these whoever is within one. Whoever has an answer underway goes only where all have.
-    pub(crate) fn readiness(self, needs: Needs, crowd: Crowd, now: u64) -> Option<u64>
-        ensures readiness { result ≡ readiness_of self needs crowd now }
+    pub(crate) fn readiness(self, needs: Needs, load: Load, now: u64) -> Option<u64>
+        ensures readiness { result ≡ readiness_of self needs load now }
         ensures may_go { IfSome result
-            (λ readiness. MayGo crowd self needs) }
+            (λ readiness. MayGo load self needs) }
     {
         let waited = now.saturating_sub(self.waits);
         match (needs, self.began, self.unsent) {
-            (Needs::Bytes, None, _) if !crowd.is_busy() => beyond(PAUSE, IDLE, waited),
+            (Needs::Bytes, None, _) if !load.is_busy() => beyond(PAUSE, IDLE, waited),
             (Needs::Bytes, Some(began), _) => beyond(GRACE, 0, now.saturating_sub(began)),
-            (Needs::Room, _, Some(unsent)) if crowd.is_unsent() => {
+            (Needs::Room, _, Some(unsent)) if load.is_unsent() => {
                 beyond(GRACE, IDLE, now.saturating_sub(unsent))
             }
             _ => None,

@@ -5,7 +5,7 @@ use Rattle.office_deliveries.specs.Histories.{Crashed, running_from}
 use Rattle.web_connection.specs.Run.{AtTick}
 use Rattle.web_arrivals.specs.Streams.{ServesHistory}
 use Rattle.web_handler.specs.Streams.{words_of}
-use Rattle.web_server.specs.Visits.{most_of}
+use Rattle.web_server.specs.Rounds.{most_of}
 use Rattle.web_turns.specs.Acts.{between}
 use Rattle.app_files.specs.Served.{OpensAs}
 use Rattle.app_files.proofs.ServedLemmas.{answers_by, runs_as, served_of}

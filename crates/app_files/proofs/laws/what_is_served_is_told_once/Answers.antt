@@ -3,7 +3,7 @@ use Rattle.sqlite.specs.Held.{state}
 use Rattle.sqlite.specs.State.{HasCleanDisk}
 use Rattle.web_connection.specs.Run.{AtTick}
 use Rattle.web_arrivals.specs.Streams.{ServesList}
-use Rattle.web_server.specs.Visits.{most_of}
+use Rattle.web_server.specs.Rounds.{most_of}
 use Rattle.web_turns.specs.Acts.{between}
 use Rattle.app_files.proofs.ServedLemmas.{answers_by, served_of}
 use Rattle.app_files.proofs.laws.what_is_served_is_told_once.Goals as goal

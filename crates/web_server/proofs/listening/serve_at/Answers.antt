@@ -3,7 +3,7 @@ use Rattle.web_connection.specs.Run.{AtTick}
 use Rattle.web_http.specs.Written.{Page}
 use Rattle.web_cli.proofs.SayLemmas.{says_listening}
 use Rattle.web_server.specs.Clock.{IsRead}
-use Rattle.web_server.proofs.VisitLemmas.{answers_none, answers_unsaid}
+use Rattle.web_server.proofs.RoundLemmas.{answers_none, answers_unsaid}
 use Rattle.web_server.proofs.listening.serve_at.Goals as goal
 
 pub returns-in_default-clause-said : goal.returns-in_default-clause-said

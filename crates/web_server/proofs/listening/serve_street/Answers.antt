@@ -1,7 +1,7 @@
 use Rattle.std.proofs.Common.{inl, inr, refl}
 use Rattle.web_connection.specs.Run.{AtTick}
 use Rattle.web_server.specs.Clock.{IsRead}
-use Rattle.web_server.proofs.VisitLemmas.{answers_none}
+use Rattle.web_server.proofs.RoundLemmas.{answers_none}
 use Rattle.web_server.proofs.listening.serve_street.Goals as goal
 
 pub returns-in_default-clause-leads : goal.returns-in_default-clause-leads

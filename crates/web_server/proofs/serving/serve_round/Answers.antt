@@ -1,7 +1,7 @@
 use Rattle.std.proofs.Common.{arith, refl}
 use Rattle.web_connection.specs.Run.{AtTick}
 use Rattle.web_turns.specs.Contexts.{between_at}
-use Rattle.web_server.proofs.VisitLemmas.{hosts_more, hosts_none, hosts_of, reseats_clears, reseats_more}
+use Rattle.web_server.proofs.RoundLemmas.{hosts_more, hosts_none, hosts_of, reseats_clears, reseats_more}
 use Rattle.web_server.proofs.serving.serve_round.Goals as goal
 
 pub returns-clause-hosts : goal.returns-clause-hosts

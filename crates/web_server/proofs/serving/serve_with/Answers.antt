@@ -1,6 +1,6 @@
 use Rattle.std.proofs.Common.{refl}
 use Rattle.web_connection.specs.Run.{AtTick}
-use Rattle.web_server.proofs.VisitLemmas.{hosts_none}
+use Rattle.web_server.proofs.RoundLemmas.{hosts_none}
 use Rattle.web_server.proofs.serving.serve_with.Goals as goal
 
 pub returns-in_default-clause-hosts : goal.returns-in_default-clause-hosts

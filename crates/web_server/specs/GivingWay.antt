@@ -3,16 +3,16 @@ use Rattle.std.specs.Prelude.{◌≡◌, ◌+◌, ◌-◌, ◌^◌, ◌≤◌, �
 use Rattle.web_turns.specs.declared.stage.Needs.{Needs}
 use Rattle.web_turns.specs.declared.stage.Needs.TheVariants as needs
 use Rattle.web_turns.specs.Halls.{Callers, IsFree, at_place, place_needs, with_place}
-use Rattle.web_server.specs.declared.times.Crowd.{Crowd}
-use Rattle.web_server.specs.declared.times.Since.{Since}
-use Rattle.web_server.specs.Times.{crowd_with}
+use Rattle.web_server.specs.declared.times.Load.{Load}
+use Rattle.web_server.specs.declared.times.Timer.{Timer}
+use Rattle.web_server.specs.Times.{load_with}
 
 -- Who may have to go: whoever is between two requests, where that group is a greatest one; whoever is within one; and whoever has bytes unsent,
 -- where that group is greater than each other.
-abbrev pub MayGo : Crowd → Since → Needs → Type 0
-MayGo crowd since needs.Bytes = since.began ≡ None → (crowd.within ≤ crowd.between) × (crowd.unsent ≤ crowd.between)
-MayGo crowd since needs.Room = (since.unsent ≢ None) × (crowd.between < crowd.unsent) × (crowd.within < crowd.unsent)
-MayGo crowd since needs.Nothing = ⊥
+abbrev pub MayGo : Load → Timer → Needs → Type 0
+MayGo load timer needs.Bytes = timer.began ≡ None → (load.within ≤ load.between) × (load.unsent ≤ load.between)
+MayGo load timer needs.Room = (timer.unsent ≢ None) × (load.between < load.unsent) × (load.within < load.unsent)
+MayGo load timer needs.Nothing = ⊥
 
 -- how readily one goes who has waited so long: not at all within a grace; beyond it the longer the readier, with so much added
 abbrev pub beyond : ℕ → ℕ → ℕ → Option ℕ
@@ -20,39 +20,39 @@ beyond grace more long = if nat_le grace long then Some (min (more + long) (2 ^ 
 
 -- Whoever waits for bytes may go: between two requests after a quarter of a second, before all who are within one, and only where these aren't
 -- more; within one a second after it began.
-abbrev pub readiness_of_waiting : Option ℕ → ℕ → Crowd → ℕ → Option ℕ
-readiness_of_waiting None waits crowd now = if nat_lt crowd.between crowd.within || nat_lt crowd.between crowd.unsent then None else beyond 250 (2 ^ 63) (now - waits)
-readiness_of_waiting (Some began) waits crowd now = beyond 1000 0 (now - began)
+abbrev pub readiness_of_waiting : Option ℕ → ℕ → Load → ℕ → Option ℕ
+readiness_of_waiting None waits load now = if nat_lt load.between load.within || nat_lt load.between load.unsent then None else beyond 250 (2 ^ 63) (now - waits)
+readiness_of_waiting (Some began) waits load now = beyond 1000 0 (now - began)
 
 -- Whoever has bytes unsent may go a second after the first of them was, before all others, and only where that group is greater than each other one.
-abbrev pub readiness_of_sending : Option ℕ → Crowd → ℕ → Option ℕ
-readiness_of_sending None crowd now = None
-readiness_of_sending (Some unsent) crowd now = if nat_lt crowd.between crowd.unsent && nat_lt crowd.within crowd.unsent then beyond 1000 (2 ^ 63) (now - unsent) else None
+abbrev pub readiness_of_sending : Option ℕ → Load → ℕ → Option ℕ
+readiness_of_sending None load now = None
+readiness_of_sending (Some unsent) load now = if nat_lt load.between load.unsent && nat_lt load.within load.unsent then beyond 1000 (2 ^ 63) (now - unsent) else None
 
 -- how readily one goes
-abbrev pub readiness_of : Since → Needs → Crowd → ℕ → Option ℕ
-readiness_of since needs.Bytes crowd now = readiness_of_waiting since.began since.waits crowd now
-readiness_of since needs.Room crowd now = readiness_of_sending since.unsent crowd now
-readiness_of since needs.Nothing crowd now = None
+abbrev pub readiness_of : Timer → Needs → Load → ℕ → Option ℕ
+readiness_of timer needs.Bytes load now = readiness_of_waiting timer.began timer.waits load now
+readiness_of timer needs.Room load now = readiness_of_sending timer.unsent load now
+readiness_of timer needs.Nothing load now = None
 
 -- how readily a caller goes where it is known since when it waits; else it may not go
-abbrev pub readiness_from : Option Since → Needs → Crowd → ℕ → Option ℕ
-readiness_from None needs crowd now = None
-readiness_from (Some since) needs crowd now = readiness_of since needs crowd now
+abbrev pub readiness_from : Option Timer → Needs → Load → ℕ → Option ℕ
+readiness_from None needs load now = None
+readiness_from (Some timer) needs load now = readiness_of timer needs load now
 
 -- the crowd with whoever is at one more place
-abbrev pub crowd_at : Option Since → Needs → Crowd → Crowd
-crowd_at None needs crowd = crowd
-crowd_at (Some since) needs crowd = crowd_with since needs crowd
+abbrev pub load_at : Option Timer → Needs → Load → Load
+load_at None needs load = load
+load_at (Some timer) needs load = load_with timer needs load
 
 -- how many are between two requests, and how many within one, at the first so many places
-unfoldable pub crowd_to : List Since → Callers → ℕ → Crowd
-crowd_to since callers zero = record { between = 0; within = 0; unsent = 0 }
-crowd_to since callers (suc n) = crowd_at (slice_get since n) (place_needs (at_place n callers)) (crowd_to since callers n)
+unfoldable pub load_to : List Timer → Callers → ℕ → Load
+load_to timer callers zero = record { between = 0; within = 0; unsent = 0 }
+load_to timer callers (suc n) = load_at (slice_get timer n) (place_needs (at_place n callers)) (load_to timer callers n)
 
 -- how readily whoever is at a place goes, among all who are there
-unfoldable pub readiness_at : List Since → Callers → ℕ → ℕ → Option ℕ
-readiness_at since callers now place = readiness_from (slice_get since place) (place_needs (at_place place callers)) (crowd_to since callers 128) now
+unfoldable pub readiness_at : List Timer → Callers → ℕ → ℕ → Option ℕ
+readiness_at timer callers now place = readiness_from (slice_get timer place) (place_needs (at_place place callers)) (load_to timer callers 128) now
 
 -- Of the first so many places: nobody may go; or one goes first, than whom nobody is readier.
 abbrev pub GoesFirst : (ℕ → Option ℕ) → ℕ → Option ℕ → Type 0

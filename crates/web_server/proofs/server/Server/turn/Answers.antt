@@ -1,8 +1,8 @@
 use Rattle.std.proofs.Common.{arith, refl}
 use Rattle.web_connection.specs.Run.{AtTick}
 use Rattle.web_turns.specs.Contexts.{between_at}
-use Rattle.web_server.proofs.VisitLemmas.{clears_leaves, hosts_more, hosts_none, hosts_of, hosts_turn, reseats_clears}
-use Rattle.web_server.proofs.house.House.turn.Goals as goal
+use Rattle.web_server.proofs.RoundLemmas.{clears_leaves, hosts_more, hosts_none, hosts_of, hosts_turn, reseats_clears}
+use Rattle.web_server.proofs.server.Server.turn.Goals as goal
 
 pub returns-then-eq-clause-hosts : goal.returns-then-eq-clause-hosts
 returns-then-eq-clause-hosts g c = hosts_none (AtTick g.T.Ticks.reads g.D.Desk.serves) _ _ _ _ _ _ _ _ refl refl refl refl

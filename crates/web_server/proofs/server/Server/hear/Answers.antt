@@ -1,7 +1,7 @@
 use Rattle.std.proofs.Common.{refl}
 use Rattle.web_connection.specs.Run.{AtTick}
-use Rattle.web_server.proofs.VisitLemmas.{hosts_none}
-use Rattle.web_server.proofs.house.House.hear.Goals as goal
+use Rattle.web_server.proofs.RoundLemmas.{hosts_none}
+use Rattle.web_server.proofs.server.Server.hear.Goals as goal
 
 pub returns-in-Door-clause-hosts : goal.returns-in-Door-clause-hosts
 returns-in-Door-clause-hosts g c = hosts_none (AtTick g.T.Ticks.reads g.D.Desk.serves) _ _ _ _ _ _ _ _ refl c.knock.ensures.hall c.knock.ensures.left refl

@@ -1,6 +1,6 @@
 use Rattle.std.proofs.Common.{arith, refl, ◌∙◌}
-use Rattle.web_server.proofs.VisitLemmas.{clears_none, reseats_clears, reseats_more}
-use Rattle.web_server.proofs.house.House.let_in.Goals as goal
+use Rattle.web_server.proofs.RoundLemmas.{clears_none, reseats_clears, reseats_more}
+use Rattle.web_server.proofs.server.Server.let_in.Goals as goal
 
 pub loop-init : goal.loop-init
 loop-init g c = (reseats_clears _ _ _ _ _ _ (clears_none _ _ refl) (omega arith) refl, refl)

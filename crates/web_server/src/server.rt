@@ -5,15 +5,15 @@ ghost use Rattle.web_cli.specs.declared.fault.RunFault.TheVariants.{Listen};
 ghost use Rattle.web_turns.specs.Contexts.{KeepsLent};
 ghost use Rattle.web_turns.specs.Halls.{IsFree, LetsIn, at_place, callers, place_needs, place_unsent, with_place};
 ghost use Rattle.web_server.specs.Hosted.{HostsBy};
-ghost use Rattle.web_server.specs.Places.{GoesFirst, MakesRoom, NobodyIsThere, crowd_at, crowd_to, readiness_at};
-ghost use Rattle.web_server.specs.Times.{EndsLate, is_late, noted_at, stays};
-ghost use Rattle.web_server.specs.Visits.{Clears, Rearranged, Reseats};
+ghost use Rattle.web_server.specs.GivingWay.{GoesFirst, MakesRoom, NobodyIsThere, load_at, load_to, readiness_at};
+ghost use Rattle.web_server.specs.Times.{EndsLate, is_late, timers_after, stays};
+ghost use Rattle.web_server.specs.Rounds.{Clears, Rearranged, Reseats};
 ghost use Rattle.web_sockets.specs.Comers.{as_begun};
 
 use crate::clock::System;
 use crate::log::{Log, Parted};
 use crate::noted::Attended;
-use crate::times::{Crowd, Since};
+use crate::times::{Load, Timer};
 use base_devices::Ticks;
 use std::alloc::{AllocError, Global};
 use std::sync::ledger::Ledger;
@@ -31,10 +31,10 @@ const AT_ONCE: u32 = 16;
 
 /// A house that is open.
 #[derive(Drop)]
-pub(crate) struct House<'a, R, E: Ends> {
+pub(crate) struct Server<'a, R, E: Ends> {
     log: &'a Log<'a, R>,
     hall: Hall<E>,
-    since: Vec<Since>,
+    timers: Vec<Timer>,
     // How many more callers are let in.
     left: u64,
     // Whether somebody may be at the door.
@@ -43,18 +43,18 @@ pub(crate) struct House<'a, R, E: Ends> {
     wants: bool,
 }
 
-impl<'a, R: Clock + System + Console, E: Ends> House<'a, R, E> {
+impl<'a, R: Clock + System + Console, E: Ends> Server<'a, R, E> {
     /// A house into which nobody came yet.
     pub(crate) fn new(alloc: Global, log: &'a Log<'a, R>, left: u64) -> Result<Self, AllocError>
-        ensures hall { IfOk result (λ house. house.hall ≡ callers 0 (replicate 128 None)) }
-        ensures left { IfOk result (λ house. house.left ≡ left) }
+        ensures hall { IfOk result (λ server. server.hall ≡ callers 0 (replicate 128 None)) }
+        ensures left { IfOk result (λ server. server.left ≡ left) }
     {
         let hall = Hall::new(alloc, PLACES)?;
-        let since = vec![in alloc; Since::new(0); PLACES]?;
-        Ok(House {
+        let timers = vec![in alloc; Timer::new(0); PLACES]?;
+        Ok(Server {
             log,
             hall,
-            since,
+            timers,
             left,
             knocks: true,
             wants: false,
@@ -100,11 +100,11 @@ impl<'a, R: Clock + System + Console, E: Ends> House<'a, R, E> {
     }
 
     // The caller at a place leaves.
-    #[tactic(auto, using(crate::proofs::VisitLemmas::clears_leaves, crate::proofs::VisitLemmas::clears_none))]
+    #[tactic(auto, using(crate::proofs::RoundLemmas::clears_leaves, crate::proofs::RoundLemmas::clears_none))]
     fn part<N: Network<E>>(&mut self, network: &mut N, place: usize, why: Parted, now: u64)
         ensures leaves { self.new.hall ≡ with_place place None self.old.hall }
         ensures listens { N.listens network.new ≡ N.listens network.old }
-        ensures since { self.new.since.items ≡ self.old.since.items }
+        ensures timers { self.new.timers.items ≡ self.old.timers.items }
         ensures clears { Clears self.old.hall self.new.hall }
         ensures left { self.new.left ≡ self.old.left }
         ensures came { N.came network.new ≡ N.came network.old }
@@ -116,47 +116,47 @@ impl<'a, R: Clock + System + Console, E: Ends> House<'a, R, E> {
     }
 
     // A crowd with whoever is at a place.
-    fn crowd_at(&self, place: usize, crowd: Crowd) -> Crowd
-        ensures { result ≡ crowd_at (slice_get self.now.since.items place)
-            (place_needs (at_place place self.now.hall)) crowd }
+    fn load_at(&self, place: usize, load: Load) -> Load
+        ensures { result ≡ load_at (slice_get self.now.timers.items place)
+            (place_needs (at_place place self.now.hall)) load }
     {
-        match self.since.get(place) {
-            Some(since) => crowd.with(*since, self.hall.needs(place)),
-            None => crowd,
+        match self.timers.get(place) {
+            Some(timer) => load.with(*timer, self.hall.needs(place)),
+            None => load,
         }
     }
 
     // How many callers are between two requests, and how many within one.
-    #[tactic(auto, using(crate::proofs::PlaceLemmas::crowd_none, crate::proofs::PlaceLemmas::crowd_next))]
-    fn crowd(&self) -> Crowd
-        ensures { result ≡ crowd_to self.now.since.items self.now.hall 128 }
+    #[tactic(auto, using(crate::proofs::GivingWayLemmas::load_none, crate::proofs::GivingWayLemmas::load_next))]
+    fn load(&self) -> Load
+        ensures { result ≡ load_to self.now.timers.items self.now.hall 128 }
     {
-        let mut crowd = Crowd::new();
+        let mut load = Load::new();
         for place in 0..PLACES {
-            crowd = self.crowd_at(place, crowd);
+            load = self.load_at(place, load);
         }
-        crowd
+        load
     }
 
     // How readily the place of a caller is given to another one, in the crowd of all.
-    #[tactic(auto, unfolding(crate::specs::Places::readiness_at))]
-    fn readiness(&self, place: usize, crowd: Crowd, now: u64) -> Option<u64>
-        requires { crowd ≡ crowd_to self.now.since.items self.now.hall 128 }
-        ensures { result ≡ readiness_at self.now.since.items self.now.hall now place }
+    #[tactic(auto, unfolding(crate::specs::GivingWay::readiness_at))]
+    fn readiness(&self, place: usize, load: Load, now: u64) -> Option<u64>
+        requires { load ≡ load_to self.now.timers.items self.now.hall 128 }
+        ensures { result ≡ readiness_at self.now.timers.items self.now.hall now place }
     {
-        let since = self.since.get(place)?;
-        since.readiness(self.hall.needs(place), crowd, now)
+        let timer = self.timers.get(place)?;
+        timer.readiness(self.hall.needs(place), load, now)
     }
 
     // The place whose caller has to go first where another one comes: one of the greater group, of those within a request and those between two.
     fn first_to_go(&self, now: u64) -> Option<usize>
-        ensures { GoesFirst (readiness_at self.now.since.items self.now.hall now) 128 result }
+        ensures { GoesFirst (readiness_at self.now.timers.items self.now.hall now) 128 result }
     {
-        let crowd = self.crowd();
+        let load = self.load();
         let mut found = None;
         let mut most = 0;
         for place in 0..PLACES {
-            if let Some(readiness) = self.readiness(place, crowd, now) {
+            if let Some(readiness) = self.readiness(place, load, now) {
                 if found.is_none() || readiness > most {
                     found = Some(place);
                     most = readiness;
@@ -167,7 +167,7 @@ impl<'a, R: Clock + System + Console, E: Ends> House<'a, R, E> {
     }
 
     // A caller takes a place that is free.
-    #[tactic(auto, using(crate::proofs::VisitLemmas::lets_one, crate::proofs::VisitLemmas::lets_nobody))]
+    #[tactic(auto, using(crate::proofs::RoundLemmas::lets_one, crate::proofs::RoundLemmas::lets_nobody))]
     fn seat<N: Network<E>>(
         &mut self,
         alloc: Global,
@@ -189,17 +189,17 @@ impl<'a, R: Clock + System + Console, E: Ends> House<'a, R, E> {
             return;
         }
         if self.hall.let_in(alloc, place, ends).is_ok() {
-            if let Some(since) = self.since.get_mut(place) {
-                *since = Since::new(now);
+            if let Some(timer) = self.timers.get_mut(place) {
+                *timer = Timer::new(now);
             }
         }
     }
 
     // Where no place is free the caller leaves who has to go first.
-    #[tactic(auto, using(crate::proofs::VisitLemmas::clears_none))]
+    #[tactic(auto, using(crate::proofs::RoundLemmas::clears_none))]
     fn make_room<N: Network<E>>(&mut self, network: &mut N, now: u64)
         ensures listens { N.listens network.new ≡ N.listens network.old }
-        ensures room { MakesRoom (readiness_at self.old.since.items self.old.hall now)
+        ensures room { MakesRoom (readiness_at self.old.timers.items self.old.hall now)
             self.old.hall self.new.hall }
         ensures clears { Clears self.old.hall self.new.hall }
         ensures left { self.new.left ≡ self.old.left }
@@ -213,7 +213,7 @@ impl<'a, R: Clock + System + Console, E: Ends> House<'a, R, E> {
     }
 
     // A caller comes in.
-    #[tactic(auto, using(crate::proofs::VisitLemmas::cleared_comes, crate::proofs::VisitLemmas::lets_nobody))]
+    #[tactic(auto, using(crate::proofs::RoundLemmas::cleared_comes, crate::proofs::RoundLemmas::lets_nobody))]
     fn welcome<N: Network<E>>(&mut self, alloc: Global, network: &mut N, ends: E, now: u64)
         requires { 0 < self.old.left }
         ensures listens { N.listens network.new ≡ N.listens network.old }
@@ -244,7 +244,7 @@ impl<'a, R: Clock + System + Console, E: Ends> House<'a, R, E> {
     }
 
     // Lets one in. Whether another one may be at the door.
-    #[tactic(auto, using(crate::proofs::VisitLemmas::reseats_of, crate::proofs::VisitLemmas::reseats_clears, crate::proofs::VisitLemmas::clears_none))]
+    #[tactic(auto, using(crate::proofs::RoundLemmas::reseats_of, crate::proofs::RoundLemmas::reseats_clears, crate::proofs::RoundLemmas::clears_none))]
     fn let_one_in<N: Network<E>>(
         &mut self,
         alloc: Global,
@@ -301,23 +301,23 @@ impl<'a, R: Clock + System + Console, E: Ends> House<'a, R, E> {
     }
 
     // Behind a turn a caller whose conversation is over leaves, and any other one waits for what it needs.
-    #[tactic(auto, using(crate::proofs::VisitLemmas::clears_none))]
+    #[tactic(auto, using(crate::proofs::RoundLemmas::clears_none))]
     fn note<N: Network<E>>(&mut self, network: &mut N, place: usize, before: Needs, now: u64)
         ensures listens { N.listens network.new ≡ N.listens network.old }
         ensures clears { Clears self.old.hall self.new.hall }
         ensures left { self.new.left ≡ self.old.left }
         ensures came { N.came network.new ≡ N.came network.old }
-        ensures since { self.new.since.items ≡ noted_at place
-            (slice_get self.old.since.items place) before
+        ensures timers { self.new.timers.items ≡ timers_after place
+            (slice_get self.old.timers.items place) before
             (place_needs (at_place place self.old.hall))
-            (place_unsent (at_place place self.old.hall)) now self.old.since.items }
+            (place_unsent (at_place place self.old.hall)) now self.old.timers.items }
     {
         let after = self.hall.needs(place);
         let unsent = self.hall.has_unsent(place);
         if after == Needs::Nothing {
             self.part(network, place, Parted::Done, now);
-        } else if let Some(since) = self.since.get_mut(place) {
-            *since = since.behind(before, after, unsent, now);
+        } else if let Some(timer) = self.timers.get_mut(place) {
+            *timer = timer.behind(before, after, unsent, now);
         }
     }
 
@@ -376,23 +376,23 @@ impl<'a, R: Clock + System + Console, E: Ends> House<'a, R, E> {
 
     // Whether the time of whoever is at a place is up.
     fn is_late(&self, place: usize, now: u64) -> bool
-        ensures { result ≡ is_late (slice_get self.now.since.items place) now
+        ensures { result ≡ is_late (slice_get self.now.timers.items place) now
             (at_place place self.now.hall) }
     {
-        match self.since.get(place) {
-            Some(since) => since.is_up(self.hall.needs(place), now),
+        match self.timers.get(place) {
+            Some(timer) => timer.is_up(self.hall.needs(place), now),
             None => false,
         }
     }
 
     // The caller at a place leaves if its time is up.
-    #[tactic(auto, using(crate::proofs::VisitLemmas::clears_none, crate::proofs::PlaceLemmas::with_same))]
+    #[tactic(auto, using(crate::proofs::RoundLemmas::clears_none, crate::proofs::GivingWayLemmas::with_same))]
     fn end_late<N: Network<E>>(&mut self, network: &mut N, place: usize, now: u64)
         ensures listens { N.listens network.new ≡ N.listens network.old }
         ensures ends { self.new.hall ≡ with_place place
-            (stays (slice_get self.old.since.items place) now (at_place place self.old.hall))
+            (stays (slice_get self.old.timers.items place) now (at_place place self.old.hall))
             self.old.hall }
-        ensures since { self.new.since.items ≡ self.old.since.items }
+        ensures timers { self.new.timers.items ≡ self.old.timers.items }
         ensures clears { Clears self.old.hall self.new.hall }
         ensures left { self.new.left ≡ self.old.left }
         ensures came { N.came network.new ≡ N.came network.old }
@@ -405,7 +405,7 @@ impl<'a, R: Clock + System + Console, E: Ends> House<'a, R, E> {
     /// Ends what takes too long, and looks at the door again where there was no file for a caller.
     pub(crate) fn look_round<N: Network<E>>(&mut self, network: &mut N, now: u64)
         ensures listens { N.listens network.new ≡ N.listens network.old }
-        ensures late { EndsLate self.old.since.items now self.old.hall self.new.hall }
+        ensures late { EndsLate self.old.timers.items now self.old.hall self.new.hall }
         ensures clears { Clears self.old.hall self.new.hall }
         ensures left { self.new.left ≡ self.old.left }
         ensures came { N.came network.new ≡ N.came network.old }

@@ -11,7 +11,7 @@ use Rattle.web_turns.specs.declared.turns.Next.TheVariants as nexts
 use Rattle.web_turns.specs.Acts.{Between}
 use Rattle.web_turns.specs.Halls.{Callers, DoesAll, IsFree, LetsIn, TurnsAt, callers, seat_begun, with_caller, with_place}
 use Rattle.web_turns.proofs.StoryLemmas.{own_story}
-use Rattle.web_server.specs.Visits.{AnswersCallers, EndsAtOnce, EndsEarly, Happened, Hosts, Clears, Rearranged, Rearranges, Reseats, RoundsEnd, Served}
+use Rattle.web_server.specs.Rounds.{AnswersCallers, EndsAtOnce, EndsEarly, Happened, Hosts, Clears, Rearranged, Rearranges, Reseats, RoundsEnd, Served}
 use Rattle.web_connection.specs.declared.failure.Failure.TheVariants as failures
 use Rattle.web_cli.specs.declared.fault.RunFault.{RunFault}
 use Rattle.web_cli.specs.declared.fault.RunFault.TheVariants as faults

@@ -4,8 +4,8 @@ use Rattle.std.proofs.lemmas.Bool.{cases_eq, cases_lt}
 use Rattle.std.proofs.lemmas.List.{get_or_past, get_or-set_same, get_or-set_other, set-get_or, set_past}
 use native.Mathlib.Numerals.{unary_clauses}
 use Rattle.web_turns.specs.Halls.{Caller, Callers, at_place, callers, place_needs, with_place}
-use Rattle.web_server.specs.declared.times.Since.{Since}
-use Rattle.web_server.specs.Places.{crowd_at, crowd_to}
+use Rattle.web_server.specs.declared.times.Timer.{Timer}
+use Rattle.web_server.specs.GivingWay.{load_at, load_to}
 use Rattle.web_server.specs.Times.{stays}
 
 -- ---- who goes first
@@ -15,24 +15,24 @@ abbrev pub IsFirst : (ℕ → Option ℕ) → ℕ → Option ℕ → ℕ → Typ
 IsFirst ready n None most = (place : ℕ) → place < n → ready place ≡ None
 IsFirst ready n (Some first) most = (ready first ≡ Some most) × ((place r : ℕ) → place < n → ready place ≡ Some r → r ≤ most)
 
-pub crowd_none : (since : List Since) (now : Callers) → crowd_to since now 0 ≡ record { between = 0; within = 0; unsent = 0 }
-unfolding crowd_to
-crowd_none since now = refl
+pub load_none : (timer : List Timer) (now : Callers) → load_to timer now 0 ≡ record { between = 0; within = 0; unsent = 0 }
+unfolding load_to
+load_none timer now = refl
 
-pub crowd_next : (since : List Since) (now : Callers) (n : ℕ)
-    → crowd_to since now (n + 1) ≡ crowd_at (slice_get since n) (place_needs (at_place n now)) (crowd_to since now n)
-unfolding crowd_to
-crowd_next since now n = simp unary_clauses refl
+pub load_next : (timer : List Timer) (now : Callers) (n : ℕ)
+    → load_to timer now (n + 1) ≡ load_at (slice_get timer n) (place_needs (at_place n now)) (load_to timer now n)
+unfolding load_to
+load_next timer now n = simp unary_clauses refl
 
 -- ---- whose time is up
 
 -- what a look at the first so many places leaves
-pub record EndedTo (since : List Since) (now n : ℕ) (old new : Callers) : Type 0 where
+pub record EndedTo (timer : List Timer) (now n : ℕ) (old new : Callers) : Type 0 where
   pub came : new.came ≡ old.came
-  pub below : (place : ℕ) → place < n → at_place place new ≡ stays (slice_get since place) now (at_place place old)
+  pub below : (place : ℕ) → place < n → at_place place new ≡ stays (slice_get timer place) now (at_place place old)
   pub above : (place : ℕ) → n ≤ place → at_place place new ≡ at_place place old
 
-nobody_stays : (since : Option Since) (now : ℕ) → stays since now None ≡ None
+nobody_stays : (timer : Option Timer) (now : ℕ) → stays timer now None ≡ None
 nobody_stays None now = refl
 nobody_stays (Some s) now = refl
 
@@ -52,33 +52,33 @@ at_other n place mid whoever apart = get_or-set_other mid.places n place whoever
 pub with_same : (n : ℕ) (c : Callers) → with_place n (at_place n c) c ≡ c
 with_same n c = ap (λ (places : List (Option Caller)). callers c.came places) (set-get_or c.places n None)
 
-stays_none : (since : Option Since) (now : ℕ) (whoever : Option Caller) → whoever ≡ None → stays since now whoever ≡ None
-stays_none since now whoever is = ap (stays since now) is ∙ nobody_stays since now
+stays_none : (timer : Option Timer) (now : ℕ) (whoever : Option Caller) → whoever ≡ None → stays timer now whoever ≡ None
+stays_none timer now whoever is = ap (stays timer now) is ∙ nobody_stays timer now
 
-pub ended_none : (since : List Since) (now : ℕ) (old : Callers) → EndedTo since now 0 old old
-ended_none since now old = record {
+pub ended_none : (timer : List Timer) (now : ℕ) (old : Callers) → EndedTo timer now 0 old old
+ended_none timer now old = record {
   came = refl;
   below = λ place lt. absurd (omega (arith, lt));
   above = λ place le. refl;
 }
 
 -- a look at one more place
-pub ended_more : (since amid : List Since) (now n : ℕ) (old mid new : Callers) → EndedTo since now n old mid → amid ≡ since
-    → new ≡ with_place n (stays (slice_get amid n) now (at_place n mid)) mid → EndedTo since now (n + 1) old new
-ended_more since amid now n old mid new x same is = record {
+pub ended_more : (timer amid : List Timer) (now n : ℕ) (old mid new : Callers) → EndedTo timer now n old mid → amid ≡ timer
+    → new ≡ with_place n (stays (slice_get amid n) now (at_place n mid)) mid → EndedTo timer now (n + 1) old new
+ended_more timer amid now n old mid new x same is = record {
   came = ap (λ (c : Callers). c.came) is ∙ x.came;
   below = λ place lt. below place lt (cases_eq place n);
   above = λ place le. at place ∙ at_other n place mid w (λ same. omega (arith, le, same)) ∙ x.above place (omega (arith, le));
 } where
   w : Option Caller
-  w = stays (slice_get since n) now (at_place n mid)
+  w = stays (slice_get timer n) now (at_place n mid)
 
   at : (place : ℕ) → at_place place new ≡ at_place place (with_place n w mid)
-  at place = ap (at_place place) (is ∙ ap (λ (s : List Since). with_place n (stays (slice_get s n) now (at_place n mid)) mid) same)
+  at place = ap (at_place place) (is ∙ ap (λ (s : List Timer). with_place n (stays (slice_get s n) now (at_place n mid)) mid) same)
 
-  below : (place : ℕ) → place < n + 1 → (place ≡ n) ⊎ (place ≡ n → ⊥) → at_place place new ≡ stays (slice_get since place) now (at_place place old)
+  below : (place : ℕ) → place < n + 1 → (place ≡ n) ⊎ (place ≡ n → ⊥) → at_place place new ≡ stays (slice_get timer place) now (at_place place old)
   below place lt (inl same) =
-      let here : at_place n new ≡ stays (slice_get since n) now (at_place n old) =
-      at n ∙ at_given n mid w (stays_none (slice_get since n) now (at_place n mid)) ∙ ap (stays (slice_get since n) now) (x.above n (omega arith)) in
-      subst (λ (k : ℕ). at_place k new ≡ stays (slice_get since k) now (at_place k old)) (sym same) here
+      let here : at_place n new ≡ stays (slice_get timer n) now (at_place n old) =
+      at n ∙ at_given n mid w (stays_none (slice_get timer n) now (at_place n mid)) ∙ ap (stays (slice_get timer n) now) (x.above n (omega arith)) in
+      subst (λ (k : ℕ). at_place k new ≡ stays (slice_get timer k) now (at_place k old)) (sym same) here
   below place lt (inr apart) = at place ∙ at_other n place mid w apart ∙ x.below place (omega (arith, lt, apart))
