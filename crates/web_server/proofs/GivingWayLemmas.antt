@@ -4,9 +4,9 @@ use Rattle.std.proofs.lemmas.Bool.{cases_eq, cases_lt}
 use Rattle.std.proofs.lemmas.List.{get_or_past, get_or-set_same, get_or-set_other, set-get_or, set_past}
 use native.Mathlib.Numerals.{unary_clauses}
 use Rattle.web_turns.specs.Halls.{Caller, Callers, at_place, callers, place_needs, with_place}
-use Rattle.web_server.specs.declared.times.Timer.{Timer}
+use Rattle.web_server.specs.declared.timeouts.Timer.{Timer}
 use Rattle.web_server.specs.GivingWay.{load_at, load_to}
-use Rattle.web_server.specs.Times.{stays}
+use Rattle.web_server.specs.Timeouts.{stays}
 
 -- ---- who goes first
 

@@ -3,9 +3,9 @@ use Rattle.std.specs.Prelude.{◌≡◌, ◌+◌, ◌-◌, ◌^◌, ◌≤◌, �
 use Rattle.web_turns.specs.declared.stage.Needs.{Needs}
 use Rattle.web_turns.specs.declared.stage.Needs.TheVariants as needs
 use Rattle.web_turns.specs.Halls.{Callers, IsFree, at_place, place_needs, with_place}
-use Rattle.web_server.specs.declared.times.Load.{Load}
-use Rattle.web_server.specs.declared.times.Timer.{Timer}
-use Rattle.web_server.specs.Times.{load_with}
+use Rattle.web_server.specs.declared.timeouts.Load.{Load}
+use Rattle.web_server.specs.declared.timeouts.Timer.{Timer}
+use Rattle.web_server.specs.Timeouts.{load_with}
 
 -- Who may have to go: whoever is between two requests, where that group is a greatest one; whoever is within one; and whoever has bytes unsent,
 -- where that group is greater than each other.

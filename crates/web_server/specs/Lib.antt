@@ -1,5 +1,5 @@
 pub mod Clock
 pub mod Hosted
 pub mod GivingWay
-pub mod Times
+pub mod Timeouts
 pub mod Rounds

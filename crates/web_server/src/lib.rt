@@ -10,7 +10,7 @@ pub mod noted;
 mod parting;
 pub mod serving;
 pub mod street;
-mod times;
+mod timeouts;
 
 pub use clock::{ClockTicks, System, read_tick};
 pub use host::Host;

@@ -10,7 +10,7 @@ use std::io::{ErrorKind, Read};
 use std::net::Shutdown;
 
 /// How long that takes at most, in milliseconds.
-const AWAY: u64 = 5_000;
+const LINGER_MS: u64 = 5_000;
 
 /// How many bytes are read away at most.
 const MOST: usize = 4_194_304;
@@ -113,7 +113,7 @@ impl Partings {
     pub(crate) fn close_late(&mut self, now: u64) {
         for found in self.places.iter_mut() {
             let is_late = match found {
-                Some(parting) => now.saturating_sub(parting.since) >= AWAY,
+                Some(parting) => now.saturating_sub(parting.since) >= LINGER_MS,
                 None => false,
             };
             if is_late {

@@ -6,14 +6,14 @@ ghost use Rattle.web_turns.specs.Contexts.{KeepsLent};
 ghost use Rattle.web_turns.specs.Halls.{IsFree, LetsIn, at_place, callers, place_needs, place_unsent, with_place};
 ghost use Rattle.web_server.specs.Hosted.{HostsBy};
 ghost use Rattle.web_server.specs.GivingWay.{GoesFirst, MakesRoom, NobodyIsThere, load_at, load_to, readiness_at};
-ghost use Rattle.web_server.specs.Times.{EndsLate, is_late, timers_after, stays};
+ghost use Rattle.web_server.specs.Timeouts.{EndsLate, is_late, timers_after, stays};
 ghost use Rattle.web_server.specs.Rounds.{Clears, Rearranged, Reseats};
 ghost use Rattle.web_sockets.specs.Comers.{as_begun};
 
 use crate::clock::System;
 use crate::log::{Log, Parted};
 use crate::noted::Attended;
-use crate::times::{Load, Timer};
+use crate::timeouts::{Load, Timer};
 use base_devices::Ticks;
 use std::alloc::{AllocError, Global};
 use std::sync::ledger::Ledger;

@@ -7,7 +7,7 @@ ghost use Rattle.web_cli.specs.declared.fault.RunFault.TheVariants.{Listen};
 ghost use Rattle.web_turns.specs.Acts.{between};
 ghost use Rattle.web_turns.specs.Contexts.{KeepsLent};
 ghost use Rattle.web_server.specs.Hosted.{HostsBy};
-ghost use Rattle.web_server.specs.Times.{EndsLate};
+ghost use Rattle.web_server.specs.Timeouts.{EndsLate};
 ghost use Rattle.web_server.specs.Rounds.{AnswersCallers, Clears, Hosts, RoundsEnd, most_of};
 
 use crate::clock::System;
@@ -28,7 +28,7 @@ use web_turns::Context;
 const AT_ONCE: u32 = 256;
 
 /// How long a house waits for an event at most, in milliseconds.
-const ROUND: u64 = 250;
+const ROUND_MS: u64 = 250;
 
 /// The time of a house: milliseconds since it opened.
 #[derive(Drop)]
@@ -58,7 +58,7 @@ impl<C: Clock> Watch<'_, C> {
         ensures begins { result ≡ true → self.new.looked ≡ self.old.now }
         ensures goes_on { result ≡ false → self.new.looked ≡ self.old.looked }
     {
-        let is_due = self.now.saturating_sub(self.looked) >= ROUND;
+        let is_due = self.now.saturating_sub(self.looked) >= ROUND_MS;
         if is_due {
             self.looked = self.now;
         }
@@ -143,7 +143,7 @@ fn serve_round<
         (N.came network.old) (N.came network.new) }
     ensures ends { IsOkUnless result Listen }
 {
-    let most = if server.has_comer(watch.now) { 0 } else { ROUND };
+    let most = if server.has_comer(watch.now) { 0 } else { ROUND_MS };
     if network.wait(most).is_err() {
         return Err(RunFault::Listen);
     }

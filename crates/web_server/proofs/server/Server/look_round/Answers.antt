@@ -1,5 +1,5 @@
 use Rattle.std.proofs.Common.{List, refl, ◌∙◌}
-use Rattle.web_server.specs.declared.times.Timer.{Timer}
+use Rattle.web_server.specs.declared.timeouts.Timer.{Timer}
 use Rattle.web_server.proofs.GivingWayLemmas.{ended_more, ended_none}
 use Rattle.web_server.proofs.RoundLemmas.{clears_more, clears_none}
 use Rattle.web_server.proofs.server.Server.look_round.Goals as goal

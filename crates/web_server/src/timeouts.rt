@@ -2,30 +2,30 @@
 
 ghost use Rattle.std.specs.Prelude.{◌≡◌, ◌&&◌, ◌||◌, None, Some, nat_lt, IfSome};
 ghost use Rattle.web_server.specs.GivingWay.{MayGo, beyond, readiness_of};
-ghost use Rattle.web_server.specs.Times.{load_with, is_up, sends_too_long, timer_after};
+ghost use Rattle.web_server.specs.Timeouts.{load_with, is_up, sends_too_long, timer_after};
 
 use web_turns::Needs;
 
 /// How long it waits between two requests, in milliseconds.
-const BETWEEN: u64 = 60_000;
+const IDLE_TIMEOUT_MS: u64 = 60_000;
 
 /// How long it waits from the first bytes of a request to its last; for the first request, from when the caller came.
-const WITHIN: u64 = 30_000;
+const REQUEST_TIMEOUT_MS: u64 = 30_000;
 
 /// How long it waits for a part of an answer to be taken.
-const UNSENT: u64 = 10_000;
+const WRITE_TIMEOUT_MS: u64 = 10_000;
 
 /// How long bytes may be unsent without a break.
-const SENDING: u64 = 30_000;
+const SEND_TIMEOUT_MS: u64 = 30_000;
 
 /// How long a request has at least where another caller wants its place.
-const GRACE: u64 = 1_000;
+const GRACE_MS: u64 = 1_000;
 
 /// How long the next request has to come at least where another caller wants the place.
-const PAUSE: u64 = 250;
+const PAUSE_MS: u64 = 250;
 
 /// By how much whoever is between two requests is readier to go than whoever is within one.
-const IDLE: u64 = 1 << 63;
+const IDLE_FIRST: u64 = 1 << 63;
 
 /// How many callers are between two requests, and how many within one.
 #[derive(Clone, Copy, Drop, PartialEq, Eq)]
@@ -121,7 +121,7 @@ impl Timer {
         ensures { result ≡ sends_too_long self.unsent now }
     {
         match self.unsent {
-            Some(unsent) => now.saturating_sub(unsent) >= SENDING,
+            Some(unsent) => now.saturating_sub(unsent) >= SEND_TIMEOUT_MS,
             None => false,
         }
     }
@@ -131,9 +131,9 @@ impl Timer {
         ensures { result ≡ is_up self needs now }
     {
         match (needs, self.began) {
-            (Needs::Bytes, None) => now.saturating_sub(self.waits) >= BETWEEN,
-            (Needs::Bytes, Some(began)) => now.saturating_sub(began) >= WITHIN,
-            (Needs::Room, _) => now.saturating_sub(self.waits) >= UNSENT
+            (Needs::Bytes, None) => now.saturating_sub(self.waits) >= IDLE_TIMEOUT_MS,
+            (Needs::Bytes, Some(began)) => now.saturating_sub(began) >= REQUEST_TIMEOUT_MS,
+            (Needs::Room, _) => now.saturating_sub(self.waits) >= WRITE_TIMEOUT_MS
                 || self.sends_too_long(now),
             (Needs::Nothing, _) => false,
         }
@@ -149,10 +149,10 @@ impl Timer {
     {
         let waited = now.saturating_sub(self.waits);
         match (needs, self.began, self.unsent) {
-            (Needs::Bytes, None, _) if !load.is_busy() => beyond(PAUSE, IDLE, waited),
-            (Needs::Bytes, Some(began), _) => beyond(GRACE, 0, now.saturating_sub(began)),
+            (Needs::Bytes, None, _) if !load.is_busy() => beyond(PAUSE_MS, IDLE_FIRST, waited),
+            (Needs::Bytes, Some(began), _) => beyond(GRACE_MS, 0, now.saturating_sub(began)),
             (Needs::Room, _, Some(unsent)) if load.is_unsent() => {
-                beyond(GRACE, IDLE, now.saturating_sub(unsent))
+                beyond(GRACE_MS, IDLE_FIRST, now.saturating_sub(unsent))
             }
             _ => None,
         }

@@ -3,8 +3,8 @@ use Rattle.std.specs.Prelude.{◌≡◌, ◌+◌, ◌-◌, ◌^◌, ◌<◌, ◌
 use Rattle.web_turns.specs.declared.stage.Needs.{Needs}
 use Rattle.web_turns.specs.declared.stage.Needs.TheVariants as needs
 use Rattle.web_turns.specs.Halls.{Caller, Callers, at_place, place_needs}
-use Rattle.web_server.specs.declared.times.Load.{Load}
-use Rattle.web_server.specs.declared.times.Timer.{Timer}
+use Rattle.web_server.specs.declared.timeouts.Load.{Load}
+use Rattle.web_server.specs.declared.timeouts.Timer.{Timer}
 
 -- a count and one more, up to the greatest number of 64 bits
 abbrev pub one_more : ℕ → ℕ
