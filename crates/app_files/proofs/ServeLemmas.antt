@@ -12,14 +12,14 @@ use Rattle.web_cli.specs.declared.fault.RunFault.{RunFault}
 use Rattle.web_cli.specs.declared.fault.RunFault.TheVariants as faults
 use Rattle.web_http.specs.Messages.{Message}
 use Rattle.base_values.specs.declared.answer.Answer.{Answer}
-use Rattle.web_turns.specs.Acts.{Between, between}
-use Rattle.web_turns.specs.Halls.{Hall, story}
-use Rattle.web_turns.proofs.StoryLemmas.{story_opens}
+use Rattle.web_connections.specs.Acts.{Between, between}
+use Rattle.web_connections.specs.Connections.{Connections, history}
+use Rattle.web_connections.proofs.HistoryLemmas.{history_opens}
 use Rattle.app_files.specs.Served.{IsOpenedAndServed, IsSilent, LeadsFrom, OpensAs, StaysUnopened}
 
 -- a hall into which nobody came
-pub nobody_came : {D : Type 0} (Serves : D → Tick → Message → Answer → D → Type 0) (at : Between D) → Hall Serves 0 at at (story [] [] [])
-nobody_came Serves at = (story_opens Serves at 0).hall
+pub nobody_came : {D : Type 0} (Serves : D → Tick → Message → Answer → D → Type 0) (at : Between D) → Connections Serves 0 at at (history [] [] [])
+nobody_came Serves at = (history_opens Serves at 0).connections
 
 module _ {S : Type 0} (reads : Option Tick → Type 0) (tables : Meaning (SqlTables S)) (most : ℕ) where
   -- the desk of words that were made of an office's names is the office's
@@ -31,7 +31,7 @@ module _ {S : Type 0} (reads : Option Tick → Type 0) (tables : Meaning (SqlTab
 
   -- there was no memory for the words
   pub nobody_answered : (first : DeskView (SqlTables S)) (left : Connection S) → left ≡ first.tables.connection → LeadsFrom reads tables most first left (Err faults.Memory)
-  nobody_answered first left is = record { last = first; serving = (record { came = 0; within = omega arith; all = story [] [] []; hall = nobody_came _ (between None first); begun = []; told = tt; among = refl }, refl); connection = is }
+  nobody_answered first left is = record { last = first; serving = (record { came = 0; within = omega arith; all = history [] [] []; connections = nobody_came _ (between None first); begun = []; told = tt; among = refl }, refl); connection = is }
 
   pub is_served : (g : Ghosts S) (old : Connected) (before after : Page) (desk : DeskView (SqlTables S)) (left : Connection S) (outcome : Result (Unit {0}) RunFault) → OpensAs g old desk
       → LeadsFrom reads tables most desk left outcome → IsOpenedAndServed reads g tables most old left outcome ⊎ (StaysUnopened g old left outcome × IsSilent before after)

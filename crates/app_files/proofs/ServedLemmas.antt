@@ -7,8 +7,8 @@ use Rattle.web_http.specs.Messages.{Message}
 use Rattle.web_cli.specs.declared.fault.RunFault.{RunFault}
 use Rattle.web_handler.specs.Streams.{DeskView, House, Meaning}
 use Rattle.web_server.specs.Rounds.{AnswersCallers, Served}
-use Rattle.web_turns.specs.Acts.{Between}
-use Rattle.web_turns.specs.Halls.{Hall}
+use Rattle.web_connections.specs.Acts.{Between}
+use Rattle.web_connections.specs.Connections.{Connections}
 use Rattle.app_files.specs.Evening.{RunsSo}
 
 -- who was served, however it ended
@@ -20,10 +20,10 @@ served_of Serves most old new (Err fault) (served, ends) = served
 -- whatever follows that hall follows the house, which ended so
 pub answers_by : {D E : Type 0} (Serves : D → Tick → Message → Answer → D → Type 0) (Other : E → Tick → Message → Answer → E → Type 0) (most : ℕ) (old new : Between D) (seen left : Between E)
     (outcome : Result (Unit {0}) RunFault) (x : AnswersCallers Serves most old new None None outcome)
-    → Hall Other (served_of Serves most old new outcome x).came seen left (served_of Serves most old new outcome x).all → AnswersCallers Other most seen left None None outcome
+    → Connections Other (served_of Serves most old new outcome x).came seen left (served_of Serves most old new outcome x).all → AnswersCallers Other most seen left None None outcome
 unfolding served_of
-answers_by Serves Other most old new seen left (Ok u) served hall = record { came = served.came; within = served.within; all = served.all; hall = hall; begun = served.begun; told = served.told; among = served.among }
-answers_by Serves Other most old new seen left (Err fault) (served, ends) hall = (record { came = served.came; within = served.within; all = served.all; hall = hall; begun = served.begun; told = served.told; among = served.among }, ends)
+answers_by Serves Other most old new seen left (Ok u) served connections = record { came = served.came; within = served.within; all = served.all; connections = connections; begun = served.begun; told = served.told; among = served.among }
+answers_by Serves Other most old new seen left (Err fault) (served, ends) connections = (record { came = served.came; within = served.within; all = served.all; connections = connections; begun = served.begun; told = served.told; among = served.among }, ends)
 
 -- the same desk runs so
 pub runs_as : {T : Type 0} (tables : Meaning T) (house : House) (begun : Running) (events : List Event) (desk other : DeskView T) (r : Running) → other ≡ desk

@@ -18,7 +18,7 @@ use Rattle.base_devices.specs.declared.device.Tick.{Tick}
 use Rattle.web_http.specs.Written.{Page}
 use Rattle.web_cli.specs.declared.fault.RunFault.{RunFault}
 use Rattle.web_server.specs.Rounds.{AnswersCallers, most_of}
-use Rattle.web_turns.specs.Acts.{between}
+use Rattle.web_connections.specs.Acts.{between}
 use Rattle.app_files.specs.Faults.{fault_of_opening}
 use Rattle.app_files.specs.declared.filed.Opened.{Opened}
 

@@ -39,8 +39,8 @@ ghost use Rattle.web_arrivals.specs.Seen.{HasList};
 ghost use Rattle.web_arrivals.specs.Streams.{ServesHistory, ServesList};
 ghost use Rattle.web_server.specs.Rounds.{AnswersCallers, most_of};
 ghost use Rattle.file_tables.specs.declared.sql.SqlTables.{SqlTables};
-ghost use Rattle.web_turns.specs.Acts.{Between, between, seen_at};
-ghost use Rattle.web_turns.specs.Halls.{Hall, Story};
+ghost use Rattle.web_connections.specs.Acts.{Between, between, seen_at};
+ghost use Rattle.web_connections.specs.Connections.{Connections, History};
 ghost use Rattle.web_arrivals.specs.DeskView.{trait_meaning};
 
 use base_devices::Ticks;
@@ -60,27 +60,27 @@ pub fn callers_go_on_after_a_crash<S: Alter, K: Ticks>(
     fresh: &Connection<S>,
     again: &SqlTables<S>,
 )
-    ensures goes_on { (house : House) (r : Running) (came : ℕ) (all : Story)
+    ensures goes_on { (house : House) (r : Running) (came : ℕ) (all : History)
         (first : Between (DeskView (SqlTables S))) (told : Option (List Tick))
         (organizer event : List ℕ) (s : State)
         → let tables = trait_meaning ⟦<SqlTables<S> as Tables>⟧
         in let end = between told (desk_with last.now organizer event s)
-        in Hall (AtTick K.reads (Serves tables)) came first end all → IsOf tables house first.desk
+        in Connections (AtTick K.reads (Serves tables)) came first end all → IsOf tables house first.desk
         → IsRunningAs tables house first.desk r
         → IsFound (state S.Store last.now.connection) (state S.Store fresh.now)
         → (name happening : List ℕ) (z : State)
         → OpensAs S.Store (state S.Store fresh.now) (desk_with again.now name happening z)
         → HasCleanDisk (state S.Store again.now.connection)
         → (q : Running) × (x : ShopView)
-        × Hall (AtTick K.reads (ServesRunning house)) came (seen_at first r) (seen_at end q) all
+        × Connections (AtTick K.reads (ServesRunning house)) came (seen_at first r) (seen_at end q) all
         × MayLeave (words_of house) q x × IsOf tables house (desk_with again.now name happening z)
         × IsRunningAs tables house (desk_with again.now name happening z)
         (running_from (words_of house) x) }
-    ensures unharmed { (house : House) (r : Running) (came : ℕ) (all : Story)
+    ensures unharmed { (house : House) (r : Running) (came : ℕ) (all : History)
         (first : Between (DeskView (SqlTables S))) (told : Option (List Tick))
         (organizer event : List ℕ) (s : State)
         → let tables = trait_meaning ⟦<SqlTables<S> as Tables>⟧
-        in Hall (AtTick K.reads (Serves tables)) came first
+        in Connections (AtTick K.reads (Serves tables)) came first
         (between told (desk_with last.now organizer event s)) all → IsOf tables house first.desk
         → IsRunningAs tables house first.desk r
         → IsFound (state S.Store last.now.connection) (state S.Store fresh.now)
@@ -139,24 +139,24 @@ pub fn an_evening_is_one_history<S: Alter, K: Ticks>(
     fresh: &Connection<S>,
     again: &SqlTables<S>,
 )
-    ensures { (house : House) (begun r : Running) (es : List Event) (n m : ℕ) (before after : Story)
+    ensures { (house : House) (begun r : Running) (es : List Event) (n m : ℕ) (before after : History)
         (first end : Between (DeskView (SqlTables S))) (told : Option (List Tick))
         (a b c d : DeskView (SqlTables S)) (words : Reply → Response) (command : Command)
         (tick : Tick) (outcome : Result (List ℕ) RunFault)
         → let tables = trait_meaning ⟦<SqlTables<S> as Tables>⟧
         in RunsSo tables house begun es first.desk r
-        → Hall (AtTick K.reads (Serves tables)) n first (between told (over served.now a)) before
+        → Connections (AtTick K.reads (Serves tables)) n first (between told (over served.now a)) before
         → IsOpenedAgain S.Store (state S.Store served.now.connection) (state S.Store closed.now)
         (over opened_for.now b)
         → Acts words command tick tables (over opened_for.now b) (over acted.now c) outcome
         → IsOpenedAgain S.Store (state S.Store acted.now.connection) (state S.Store fresh.now)
         (over again.now d)
-        → Hall (AtTick K.reads (Serves tables)) m (between None (over again.now d)) end after
+        → Connections (AtTick K.reads (Serves tables)) m (between None (over again.now d)) end after
         → HasCleanDisk (state S.Store end.desk.tables.connection)
         → (fs : List Event) × (x : ShopView) × (answer : Answer) × (gs : List Event) × (q : Running)
-        × Hall (AtTick K.reads (ServesHistory house)) n (seen_at first es) (between told fs) before
+        × Connections (AtTick K.reads (ServesHistory house)) n (seen_at first es) (between told fs) before
         × (outcome ≡ told_of answer)
-        × Hall (AtTick K.reads (ServesHistory house)) m (between None
+        × Connections (AtTick K.reads (ServesHistory house)) m (between None
         (((fs ++ Crashed ∷ []) ++ event_of (words_of house) (own_arrival command tick) answer x
         ∷ []) ++ Crashed ∷ [])) (seen_at end gs) after × RunsSo tables house begun gs end.desk q }
 {

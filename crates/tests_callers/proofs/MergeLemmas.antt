@@ -3,7 +3,7 @@ use Rattle.std.proofs.Common.{◌≡◌, ◌∙◌, ◌<◌, List, [], ◌∷◌
 use Rattle.std.proofs.lemmas.List.{map-append}
 use Rattle.std.proofs.lemmas.List.Elements.{All-append, All-cons, All-contains, All-map, All-nil, All-weaker, Contains-append_left, Contains-append_right, Contains-get_or}
 use Rattle.tests_callers.specs.Merges.{AddsMerges, AreMerges, IsMerge, behind, merges_of, merges_with}
-use Rattle.web_turns.specs.declared.turns.Next.{Next}
+use Rattle.web_connections.specs.declared.turns.Next.{Next}
 
 -- ---- adding them
 

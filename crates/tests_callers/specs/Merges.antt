@@ -1,6 +1,6 @@
 -- Every order of what two lists say, each in its own order.
 use Rattle.std.specs.Prelude.{◌≡◌, ◌⊎◌, List, [], ◌∷◌, ◌++◌, All, Contains, map}
-use Rattle.web_turns.specs.declared.turns.Next.{Next}
+use Rattle.web_connections.specs.declared.turns.Next.{Next}
 
 -- Each thing of an order is the next one of either list, and all of both come.
 abbrev pub IsMerge : List Next → List Next → List Next → Type 0

@@ -7,12 +7,12 @@ use std::alloc::{AllocError, Global};
 use std::sync::ledger::Ledger;
 use web_connection::Desk;
 use web_sockets::Script;
-use web_turns::{Context, Hall, Next};
+use web_connections::{Context, Connections, Next};
 
 /// A hall over memory, who is still to come, the last of them first, and what each caller was told who left.
 #[derive(Drop)]
 pub(crate) struct Floor<'a> {
-    hall: Hall<Script<'a>>,
+    connections: Connections<Script<'a>>,
     comers: Vec<Script<'a>>,
     told: Vec<Vec<u8>>,
 }
@@ -44,19 +44,19 @@ impl<'a> Floor<'a> {
     /// A hall of so many places, to which these are to come.
     pub(crate) fn new(
         alloc: Global,
-        places: usize,
+        slots: usize,
         guests: &'a [Guest<'a>],
     ) -> Result<Floor<'a>, AllocError> {
-        let hall = Hall::new(alloc, places)?;
+        let connections = Connections::new(alloc, slots)?;
         let comers = comers(alloc, guests)?;
         let told = empty_texts(alloc, guests.len())?;
-        Ok(Floor { hall, comers, told })
+        Ok(Floor { connections, comers, told })
     }
 
     // Whoever is at a place leaves. What it was told is kept under its number.
-    fn leave(&mut self, place: usize) {
-        let number = self.hall.number(place).unwrap_or(0) as usize;
-        if let Some(script) = self.hall.leave(place)
+    fn leave(&mut self, slot: usize) {
+        let number = self.connections.number(slot).unwrap_or(0) as usize;
+        if let Some(script) = self.connections.leave(slot)
             && let Some(told) = self.told.get_mut(number)
         {
             let Script { taken, .. } = script;
@@ -70,18 +70,18 @@ impl<'a> Floor<'a> {
         next: Next,
         context: &mut Context<'_, L, M, T, D>,
     ) {
-        if let Next::Leaves(place) = next {
-            return self.leave(place);
+        if let Next::Leaves(slot) = next {
+            return self.leave(slot);
         }
-        let (hall, comers) = (&mut self.hall, &mut self.comers);
-        serve_turns(context, hall, comers, &[next]);
+        let (connections, comers) = (&mut self.connections, &mut self.comers);
+        serve_turns(context, connections, comers, &[next]);
     }
 
     /// All leave: what each caller was told, by its number.
     pub(crate) fn close(self) -> Vec<Vec<u8>> {
         let mut floor = self;
-        for place in 0..floor.hall.size() {
-            floor.leave(place);
+        for slot in 0..floor.connections.size() {
+            floor.leave(slot);
         }
         let Floor { told, .. } = floor;
         told

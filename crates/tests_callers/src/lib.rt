@@ -16,4 +16,4 @@ mod words;
 pub use error::TogetherError;
 pub use party::Party;
 pub use told::{Houses, together_told};
-pub use web_turns::Next;
+pub use web_connections::Next;

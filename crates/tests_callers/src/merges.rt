@@ -4,7 +4,7 @@ ghost use Rattle.std.specs.Prelude.{◌≡◌, ◌++◌, map, IfOk, OnOk};
 ghost use Rattle.tests_callers.specs.Merges.{AddsMerges, AreMerges};
 
 use std::alloc::{AllocError, Global};
-use web_turns::Next;
+use web_connections::Next;
 
 /// Joins a list behind another.
 pub(crate) fn joined(alloc: Global, one: &[Next], other: &[Next]) -> Result<Vec<Next>, AllocError>

@@ -3,7 +3,7 @@
 use crate::error::TogetherError;
 use crate::words::{nexts, number, numbers};
 use std::alloc::Global;
-use web_turns::Next;
+use web_connections::Next;
 
 /// A caller: what it sends, how many bytes each of its reads gives at most, and how many each write to it takes.
 #[derive(Drop)]
@@ -26,7 +26,7 @@ pub(crate) struct Plan {
 #[derive(Drop)]
 pub struct Party<'a> {
     pub(crate) moments: &'a str,
-    pub(crate) places: usize,
+    pub(crate) slots: usize,
     pub(crate) guests: Vec<Guest<'a>>,
 }
 
@@ -77,13 +77,13 @@ pub(crate) fn plan_of(alloc: Global, text: &str) -> Result<Plan, TogetherError> 
 /// The callers of a text, whose house has so many places; requests come at these moments.
 pub(crate) fn party_of<'a>(
     alloc: Global,
-    places: &str,
+    slots: &str,
     moments: &'a str,
     text: &'a str,
 ) -> Result<Party<'a>, TogetherError> {
     Ok(Party {
         moments,
-        places: number(places)?,
+        slots: number(slots)?,
         guests: guests(alloc, text)?,
     })
 }

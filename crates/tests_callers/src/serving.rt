@@ -11,7 +11,7 @@ use std::alloc::Global;
 use std::marker::Brand;
 use std::sync::ledger::{Blank, Ledger};
 use web_connection::{Desk, Piece};
-use web_turns::{Context, Next};
+use web_connections::{Context, Next};
 
 // All that happens, one after another.
 fn go_on<L: Ledger, M: Ledger, T: Ticks, D: Desk>(
@@ -43,7 +43,7 @@ impl Party<'_> {
             failures: Steps::<M>::new(blanks.1),
         };
         let mut piece = Piece::new(alloc)?;
-        let mut floor = Floor::new(alloc, self.places, self.guests.as_slice())?;
+        let mut floor = Floor::new(alloc, self.slots, self.guests.as_slice())?;
         let mut context = Context::new(alloc, &mut piece, &mut page, ticks, desk);
         go_on(&mut floor, order, &mut context);
         Ok(floor.close())

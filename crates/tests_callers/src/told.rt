@@ -8,7 +8,7 @@ use crate::outcomes::{Outcome, Tally, outcomes};
 use crate::party::{Party, Plan, party_of, plan_of};
 use std::alloc::{AllocError, Global};
 use std::io::Write;
-use web_turns::Next;
+use web_connections::Next;
 
 /// What makes houses.
 pub trait Houses {
@@ -79,11 +79,11 @@ pub fn together_told<H: Houses>(
     name: &str,
     text: &str,
 ) -> Result<Vec<u8>, TogetherError> {
-    let (places, rest) = text.split_once('~').unwrap_or((text, ""));
+    let (slots, rest) = text.split_once('~').unwrap_or((text, ""));
     let (moments, rest) = rest.split_once('~').unwrap_or((rest, ""));
     let (guests, rest) = rest.split_once('~').unwrap_or((rest, ""));
     let (plan, told) = rest.split_once('~').unwrap_or((rest, ""));
-    let party = party_of(alloc, places, moments, guests)?;
+    let party = party_of(alloc, slots, moments, guests)?;
     let plan = plan_of(alloc, plan)?;
     let outcomes = outcomes(alloc, told)?;
     let tally = tally(alloc, houses, &party, &plan, outcomes.as_slice())?;

@@ -3,49 +3,49 @@
 ghost use Rattle.std.specs.Prelude.{List};
 ghost use Rattle.web_connection.specs.Run.{AtTick};
 ghost use Rattle.web_sockets.specs.Comers.{Begun};
-ghost use Rattle.web_turns.specs.Contexts.{KeepsLent, between_at};
-ghost use Rattle.web_turns.specs.Halls.{Does, DoesAll, LetsIn};
+ghost use Rattle.web_connections.specs.Contexts.{KeepsLent, between_at};
+ghost use Rattle.web_connections.specs.Connections.{Does, DoesAll, LetsIn};
 
 use base_devices::Ticks;
 use std::alloc::Global;
 use std::sync::ledger::Ledger;
 use web_connection::Desk;
 use web_sockets::Ends;
-use web_turns::{Context, Hall, Next};
+use web_connections::{Context, Connections, Next};
 
 // The last of those who are to come, to a place that is free.
 #[tactic(auto, using(crate::proofs::ComeLemmas::nobody_came, crate::proofs::ComeLemmas::one_came))]
-fn come_in<E: Ends>(alloc: Global, hall: &mut Hall<E>, comers: &mut Vec<E>)
-    ensures { (came : List Begun) × LetsIn came hall.old hall.new }
+fn come_in<E: Ends>(alloc: Global, connections: &mut Connections<E>, comers: &mut Vec<E>)
+    ensures { (came : List Begun) × LetsIn came connections.old connections.new }
 {
-    let Some(place) = hall.free_place() else {
+    let Some(slot) = connections.free_slot() else {
         return;
     };
     let Some(ends) = comers.pop() else {
         return;
     };
-    let _ = hall.let_in(alloc, place, ends);
+    let _ = connections.let_in(alloc, slot, ends);
 }
 
 // What is next.
 fn do_next<E: Ends, L: Ledger, M: Ledger, T: Ticks, D: Desk>(
     context: &mut Context<'_, L, M, T, D>,
-    hall: &mut Hall<E>,
+    connections: &mut Connections<E>,
     comers: &mut Vec<E>,
     next: Next,
 )
     ensures keeps { KeepsLent context.old context.new }
     ensures does { (came : List Begun) × Does (AtTick T.reads D.serves)
         (between_at T.Ticks context.old) (between_at T.Ticks context.new)
-        came hall.old hall.new next }
+        came connections.old connections.new next }
 {
     match next {
-        Next::Comes => come_in(context.alloc, hall, comers),
-        Next::Turn(place) => {
-            let _ = hall.turn(place, context);
+        Next::Comes => come_in(context.alloc, connections, comers),
+        Next::Turn(slot) => {
+            let _ = connections.turn(slot, context);
         }
-        Next::Leaves(place) => {
-            let _ = hall.leave(place);
+        Next::Leaves(slot) => {
+            let _ = connections.leave(slot);
         }
     }
 }
@@ -54,16 +54,16 @@ fn do_next<E: Ends, L: Ledger, M: Ledger, T: Ticks, D: Desk>(
 /// where there is no memory for one more.
 pub fn serve_turns<E: Ends, L: Ledger, M: Ledger, T: Ticks, D: Desk>(
     context: &mut Context<'_, L, M, T, D>,
-    hall: &mut Hall<E>,
+    connections: &mut Connections<E>,
     comers: &mut Vec<E>,
     order: &[Next],
 )
     ensures keeps { KeepsLent context.old context.new }
     ensures does { (came : List Begun) × DoesAll (AtTick T.reads D.serves)
         (between_at T.Ticks context.old) (between_at T.Ticks context.new)
-        came hall.old hall.new order.now }
+        came connections.old connections.new order.now }
 {
     for next in order {
-        do_next(context, hall, comers, *next);
+        do_next(context, connections, comers, *next);
     }
 }

@@ -2,7 +2,7 @@
 
 use crate::error::TogetherError;
 use std::alloc::Global;
-use web_turns::Next;
+use web_connections::Next;
 
 /// The number that a word is.
 pub(crate) fn number(word: &str) -> Result<usize, TogetherError> {

@@ -9,8 +9,8 @@ ghost use Rattle.web_arrivals.specs.DeskView.{DeskView, House, IsOf, trait_meani
 ghost use Rattle.web_arrivals.specs.Seen.{HasList, HasRunning, HasShop};
 ghost use Rattle.web_arrivals.specs.Served.{Serves};
 ghost use Rattle.web_arrivals.specs.Streams.{ServesAndKeeps, ServesHistory, ServesList, ServesRunning};
-ghost use Rattle.web_turns.specs.Acts.{Between, seen_at};
-ghost use Rattle.web_turns.specs.Halls.{Hall, Story};
+ghost use Rattle.web_connections.specs.Acts.{Between, seen_at};
+ghost use Rattle.web_connections.specs.Connections.{Connections, History};
 
 use base_devices::Ticks;
 use model_answers::Tables;
@@ -22,11 +22,11 @@ use model_answers::Tables;
 /// in the others.
 pub fn callers_are_told_once<T: Tables, K: Ticks>()
     ensures { (house : House) (p : Opening) (ds : List Delivery) (came : ℕ)
-        (old new : Between (DeskView T)) (all : Story) → let tables = trait_meaning T.Tables in
-        Hall (AtTick K.reads (Serves tables)) came old new all → T.sure new.desk.tables
+        (old new : Between (DeskView T)) (all : History) → let tables = trait_meaning T.Tables in
+        Connections (AtTick K.reads (Serves tables)) came old new all → T.sure new.desk.tables
         → IsOf tables house old.desk → HasList tables (words_of house) old.desk p ds
         → (es : List Delivery)
-        × Hall (AtTick K.reads (ServesList house p)) came (seen_at old ds) (seen_at new es) all
+        × Connections (AtTick K.reads (ServesList house p)) came (seen_at old ds) (seen_at new es) all
         × IsOf tables house new.desk × HasList tables (words_of house) new.desk p es }
 {}
 
@@ -34,11 +34,11 @@ pub fn callers_are_told_once<T: Tables, K: Ticks>()
 /// out that was answered 503 since the last one that was executed.
 pub fn callers_run_on<T: Tables, K: Ticks>()
     ensures { (house : House) (r : Running) (came : ℕ) (old new : Between (DeskView T))
-        (all : Story) → let tables = trait_meaning T.Tables in
-        Hall (AtTick K.reads (Serves tables)) came old new all → T.sure new.desk.tables
+        (all : History) → let tables = trait_meaning T.Tables in
+        Connections (AtTick K.reads (Serves tables)) came old new all → T.sure new.desk.tables
         → IsOf tables house old.desk → HasRunning tables (words_of house) old.desk r
         → (s : Running)
-        × Hall (AtTick K.reads (ServesRunning house)) came (seen_at old r) (seen_at new s) all
+        × Connections (AtTick K.reads (ServesRunning house)) came (seen_at old r) (seen_at new s) all
         × IsOf tables house new.desk × HasRunning tables (words_of house) new.desk s }
 {}
 
@@ -46,11 +46,11 @@ pub fn callers_run_on<T: Tables, K: Ticks>()
 /// refused before it is a command take nothing; and the shop remains sound.
 pub fn callers_take_nothing_too_much<T: Tables, K: Ticks>()
     ensures { (house : House) (v : ShopView) (came : ℕ) (old new : Between (DeskView T))
-        (all : Story) → let tables = trait_meaning T.Tables in
-        IsSound v.state → Hall (AtTick K.reads (Serves tables)) came old new all
+        (all : History) → let tables = trait_meaning T.Tables in
+        IsSound v.state → Connections (AtTick K.reads (Serves tables)) came old new all
         → T.sure new.desk.tables → IsOf tables house old.desk → HasShop tables old.desk v
         → (w : ShopView)
-        × Hall (AtTick K.reads (ServesAndKeeps house)) came (seen_at old v) (seen_at new w) all
+        × Connections (AtTick K.reads (ServesAndKeeps house)) came (seen_at old v) (seen_at new w) all
         × IsOf tables house new.desk × HasShop tables new.desk w × IsSound w.state }
 {}
 
@@ -59,11 +59,11 @@ pub fn callers_take_nothing_too_much<T: Tables, K: Ticks>()
 /// it.
 pub fn callers_go_on_with_a_history<T: Tables, K: Ticks>()
     ensures { (house : House) (begun q : Running) (es : List Event) (came : ℕ)
-        (old new : Between (DeskView T)) (all : Story) → let tables = trait_meaning T.Tables in
-        Hall (AtTick K.reads (Serves tables)) came old new all → T.sure new.desk.tables
+        (old new : Between (DeskView T)) (all : History) → let tables = trait_meaning T.Tables in
+        Connections (AtTick K.reads (Serves tables)) came old new all → T.sure new.desk.tables
         → IsOf tables house old.desk → Happens (words_of house) begun es q
         → HasRunning tables (words_of house) old.desk q → (fs : List Event) × (s : Running)
-        × Hall (AtTick K.reads (ServesHistory house)) came (seen_at old es) (seen_at new fs) all
+        × Connections (AtTick K.reads (ServesHistory house)) came (seen_at old es) (seen_at new fs) all
         × IsOf tables house new.desk × Happens (words_of house) begun fs s
         × HasRunning tables (words_of house) new.desk s }
 {}

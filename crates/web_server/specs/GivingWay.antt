@@ -1,8 +1,8 @@
 -- Whose place is given to another caller.
 use Rattle.std.specs.Prelude.{◌≡◌, ◌+◌, ◌-◌, ◌^◌, ◌≤◌, ◌<◌, ◌&&◌, ◌||◌, ◌≢◌, ℕ, zero, suc, min, nat_le, nat_lt, List, Option, Some, None, if◌then◌else◌, slice_get}
-use Rattle.web_turns.specs.declared.stage.Needs.{Needs}
-use Rattle.web_turns.specs.declared.stage.Needs.TheVariants as needs
-use Rattle.web_turns.specs.Halls.{Callers, IsFree, at_place, place_needs, with_place}
+use Rattle.web_connections.specs.declared.phase.Needs.{Needs}
+use Rattle.web_connections.specs.declared.phase.Needs.TheVariants as needs
+use Rattle.web_connections.specs.Connections.{Callers, IsFree, at_slot, slot_needs, with_slot}
 use Rattle.web_server.specs.declared.timeouts.Load.{Load}
 use Rattle.web_server.specs.declared.timeouts.Timer.{Timer}
 use Rattle.web_server.specs.Timeouts.{load_with}
@@ -48,27 +48,27 @@ load_at (Some timer) needs load = load_with timer needs load
 -- how many are between two requests, and how many within one, at the first so many places
 unfoldable pub load_to : List Timer → Callers → ℕ → Load
 load_to timer callers zero = record { between = 0; within = 0; unsent = 0 }
-load_to timer callers (suc n) = load_at (slice_get timer n) (place_needs (at_place n callers)) (load_to timer callers n)
+load_to timer callers (suc n) = load_at (slice_get timer n) (slot_needs (at_slot n callers)) (load_to timer callers n)
 
 -- how readily whoever is at a place goes, among all who are there
 unfoldable pub readiness_at : List Timer → Callers → ℕ → ℕ → Option ℕ
-readiness_at timer callers now place = readiness_from (slice_get timer place) (place_needs (at_place place callers)) (load_to timer callers 128) now
+readiness_at timer callers now slot = readiness_from (slice_get timer slot) (slot_needs (at_slot slot callers)) (load_to timer callers 128) now
 
 -- Of the first so many places: nobody may go; or one goes first, than whom nobody is readier.
 abbrev pub GoesFirst : (ℕ → Option ℕ) → ℕ → Option ℕ → Type 0
-GoesFirst ready n None = (place : ℕ) → place < n → ready place ≡ None
-GoesFirst ready n (Some first) = (most : ℕ) × (ready first ≡ Some most) × ((place r : ℕ) → place < n → ready place ≡ Some r → r ≤ most)
+GoesFirst ready n None = (slot : ℕ) → slot < n → ready slot ≡ None
+GoesFirst ready n (Some first) = (most : ℕ) × (ready first ≡ Some most) × ((slot r : ℕ) → slot < n → ready slot ≡ Some r → r ≤ most)
 
 -- who is there when that one has left
 abbrev pub without : Option ℕ → Callers → Callers
 without None callers = callers
-without (Some place) callers = with_place place None callers
+without (Some slot) callers = with_slot slot None callers
 
 -- A caller more comes: where a place is free nobody leaves, else whoever goes first, of all 128 places.
 pub record MakesRoom (ready : ℕ → Option ℕ) (old new : Callers) : Type 0 where
-  pub free : (place : ℕ) → IsFree place old → new ≡ old
-  pub full : ((place : ℕ) → IsFree place old → ⊥) → (first : Option ℕ) × GoesFirst ready 128 first × (new ≡ without first old)
+  pub free : (slot : ℕ) → IsFree slot old → new ≡ old
+  pub full : ((slot : ℕ) → IsFree slot old → ⊥) → (first : Option ℕ) × GoesFirst ready 128 first × (new ≡ without first old)
 
 -- nobody is at any of the 128 places
 abbrev pub NobodyIsThere : Callers → Type 0
-NobodyIsThere callers = (place : ℕ) → place < 128 → place_needs (at_place place callers) ≡ needs.Nothing
+NobodyIsThere callers = (slot : ℕ) → slot < 128 → slot_needs (at_slot slot callers) ≡ needs.Nothing

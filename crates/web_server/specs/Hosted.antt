@@ -6,8 +6,8 @@ use Rattle.base_devices.specs.declared.device.Ticks as clock
 use Rattle.web_http.specs.Messages.{Message}
 use Rattle.web_connection.specs.Run.{AtTick}
 use Rattle.web_sockets.specs.Comers.{Begun}
-use Rattle.web_turns.specs.declared.context.Context.{Context}
-use Rattle.web_turns.specs.Contexts.{between_at}
+use Rattle.web_connections.specs.declared.context.Context.{Context}
+use Rattle.web_connections.specs.Contexts.{between_at}
 use Rattle.web_server.specs.declared.server.Server.{Server}
 use Rattle.web_server.specs.Rounds.{Hosts}
 
@@ -16,4 +16,4 @@ use Rattle.web_server.specs.Rounds.{Hosts}
 abbrev pub HostsBy : {L M T D R E : Type 0} → clock.Ghosts T → (D → Tick → Message → Answer → D → Type 0) → Context L M T D → Context L M T D → Server R E → Server R E → Option (List Begun)
     → Option (List Begun) → Type 0
 HostsBy t serves context context' server server' shown seen =
-    Hosts (AtTick t.reads serves) (between_at t context) (between_at t context') server.hall server'.hall server.left server'.left shown seen
+    Hosts (AtTick t.reads serves) (between_at t context) (between_at t context') server.connections server'.connections server.left server'.left shown seen

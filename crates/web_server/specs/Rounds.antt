@@ -8,18 +8,18 @@ use Rattle.web_connection.specs.declared.failure.Failure.TheVariants as failures
 use Rattle.web_cli.specs.declared.fault.RunFault.{RunFault}
 use Rattle.web_cli.specs.declared.fault.RunFault.TheVariants as faults
 use Rattle.web_sockets.specs.Comers.{Begun}
-use Rattle.web_turns.specs.declared.turns.Next.{Next}
-use Rattle.web_turns.specs.declared.turns.Next.TheVariants as nexts
-pub use Rattle.web_turns.specs.Acts.{Between, between, seen_at}
-use Rattle.web_turns.specs.Halls.{AreAmong, Callers, DoesAll, Hall, LetsIn, Story, with_place}
+use Rattle.web_connections.specs.declared.turns.Next.{Next}
+use Rattle.web_connections.specs.declared.turns.Next.TheVariants as nexts
+pub use Rattle.web_connections.specs.Acts.{Between, between, seen_at}
+use Rattle.web_connections.specs.Connections.{AreAmong, Callers, DoesAll, Connections, LetsIn, History, with_slot}
 
 -- callers come and leave, one after another, and nobody has a turn
 abbrev pub Rearranges : List Begun → Callers → Callers → List Next → Type 0
 Rearranges came old new [] = (came ≡ []) × (new ≡ old)
 Rearranges came old new (nexts.Comes ∷ others) =
     (amid : Callers) × (first : List Begun) × (later : List Begun) × (came ≡ first ++ later) × LetsIn first old amid × Rearranges later amid new others
-Rearranges came old new (nexts.Leaves place ∷ others) = Rearranges came (with_place place None old) new others
-Rearranges came old new (nexts.Turn place ∷ others) = ⊥
+Rearranges came old new (nexts.Leaves slot ∷ others) = Rearranges came (with_slot slot None old) new others
+Rearranges came old new (nexts.Turn slot ∷ others) = ⊥
 
 -- some callers came and some left, in some order, and nobody had a turn
 pub record Rearranged (came : List Begun) (old new : Callers) : Type 0 where
@@ -33,15 +33,15 @@ pub record Happened {D : Type 0} (Serves : D → Tick → Message → Answer →
 
 -- nobody came, and some left
 pub record Clears (old new : Callers) : Type 0 where
-  pub hall : Rearranged [] old new
+  pub connections : Rearranged [] old new
   pub came : new.came ≡ old.came
 
 -- What a deed of a house leaves in which nobody has a turn: callers came whom the network let in, and some left; each who came was one of those who
 -- were to be let in still.
-pub record Reseats (old new : Callers) (before left : ℕ) (shown seen : Option (List Begun)) : Type 0 where
+pub record Reassigns (old new : Callers) (before left : ℕ) (shown seen : Option (List Begun)) : Type 0 where
   pub came : List Begun
   pub told : Adds shown came seen
-  pub hall : Rearranged came old new
+  pub connections : Rearranged came old new
   pub count : new.came + left ≤ old.came + before
 
 -- What a deed of a house leaves in which callers have turns too: callers came whom the network let in, and some left; each who came was one
@@ -49,7 +49,7 @@ pub record Reseats (old new : Callers) (before left : ℕ) (shown seen : Option 
 pub record Hosts {D : Type 0} (Serves : D → Tick → Message → Answer → D → Type 0) (from to : Between D) (old new : Callers) (before left : ℕ) (shown seen : Option (List Begun)) : Type 0 where
   pub came : List Begun
   pub told : Adds shown came seen
-  pub hall : Happened Serves from to came old new
+  pub connections : Happened Serves from to came old new
   pub count : new.came + left ≤ old.came + before
 
 -- At most so many callers came in, many of them at once, and each has the conversation of its own bytes. They are, in order, some of those whom the
@@ -57,8 +57,8 @@ pub record Hosts {D : Type 0} (Serves : D → Tick → Message → Answer → D 
 pub record Served {D : Type 0} (Serves : D → Tick → Message → Answer → D → Type 0) (most : ℕ) (old new : Between D) (shown seen : Option (List Begun)) : Type 0 where
   pub came : ℕ
   pub within : came ≤ most
-  pub all : Story
-  pub hall : Hall Serves came old new all
+  pub all : History
+  pub connections : Connections Serves came old new all
   pub begun : List Begun
   pub told : Adds shown begun seen
   pub among : AreAmong all.firsts begun

@@ -1,8 +1,8 @@
 -- How long a caller may take, in milliseconds, and who is counted as between two requests or within one.
 use Rattle.std.specs.Prelude.{◌≡◌, ◌+◌, ◌-◌, ◌^◌, ◌<◌, ◌||◌, ℕ, Bool, true, false, min, nat_le, List, Option, Some, None, unwrap_or, slice_get, slice_set, if◌then◌else◌}
-use Rattle.web_turns.specs.declared.stage.Needs.{Needs}
-use Rattle.web_turns.specs.declared.stage.Needs.TheVariants as needs
-use Rattle.web_turns.specs.Halls.{Caller, Callers, at_place, place_needs}
+use Rattle.web_connections.specs.declared.phase.Needs.{Needs}
+use Rattle.web_connections.specs.declared.phase.Needs.TheVariants as needs
+use Rattle.web_connections.specs.Connections.{Caller, Callers, at_slot, slot_needs}
 use Rattle.web_server.specs.declared.timeouts.Load.{Load}
 use Rattle.web_server.specs.declared.timeouts.Timer.{Timer}
 
@@ -66,14 +66,14 @@ timer_after timer before after unsent now = record { waits = now; began = began_
 
 -- since when callers wait, with what is so of the caller at a place behind its turn; where its conversation is over nothing is kept
 abbrev pub timers_after : ℕ → Option Timer → Needs → Needs → Bool → ℕ → List Timer → List Timer
-timers_after place found before needs.Nothing unsent now timer = timer
-timers_after place None before after unsent now timer = timer
-timers_after place (Some s) before after unsent now timer = slice_set timer place (timer_after s before after unsent now)
+timers_after slot found before needs.Nothing unsent now timer = timer
+timers_after slot None before after unsent now timer = timer
+timers_after slot (Some s) before after unsent now timer = slice_set timer slot (timer_after s before after unsent now)
 
 -- whoever is at a place is late if its time is up; a free place needs nothing
 abbrev pub is_late : Option Timer → ℕ → Option Caller → Bool
 is_late None now whoever = false
-is_late (Some timer) now whoever = is_up timer (place_needs whoever) now
+is_late (Some timer) now whoever = is_up timer (slot_needs whoever) now
 
 -- who is at a place behind a look at it
 abbrev pub stays : Option Timer → ℕ → Option Caller → Option Caller
@@ -82,4 +82,4 @@ stays timer now whoever = if is_late timer now whoever then None else whoever
 -- A look at all 128 places: those leave whose time is up, and nobody else.
 pub record EndsLate (timer : List Timer) (now : ℕ) (old new : Callers) : Type 0 where
   pub came : new.came ≡ old.came
-  pub places : (place : ℕ) → place < 128 → at_place place new ≡ stays (slice_get timer place) now (at_place place old)
+  pub slots : (slot : ℕ) → slot < 128 → at_slot slot new ≡ stays (slice_get timer slot) now (at_slot slot old)

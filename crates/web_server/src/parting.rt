@@ -27,7 +27,7 @@ struct Parting {
 /// Connections that ended, each at a place.
 #[derive(Drop)]
 pub(crate) struct Partings {
-    places: Vec<Option<Parting>>,
+    slots: Vec<Option<Parting>>,
 }
 
 // Has nothing more be written to a stream, and waits for what it brings.
@@ -68,37 +68,37 @@ fn read_away(
 impl Partings {
     /// As many places, and no connection at any.
     pub(crate) fn new(alloc: Global, count: usize) -> Result<Partings, AllocError> {
-        let mut places = Vec::new(alloc);
+        let mut slots = Vec::new(alloc);
         for _ in 0..count {
-            places.push(None)?;
+            slots.push(None)?;
         }
-        Ok(Partings { places })
+        Ok(Partings { slots })
     }
 
     /// Whether no connection is there.
     pub(crate) fn is_empty(&self) -> bool {
-        self.places.iter().all(|it| it.is_none())
+        self.slots.iter().all(|it| it.is_none())
     }
 
     // The first place that is free, or else the first one.
-    fn place(&self) -> usize {
-        self.places.iter().position(|it| it.is_none()).unwrap_or(0)
+    fn slot(&self) -> usize {
+        self.slots.iter().position(|it| it.is_none()).unwrap_or(0)
     }
 
     /// A connection ends. Its events come under its place, behind so many others.
     pub(crate) fn add(&mut self, stream: TcpStream, registry: &Registry, behind: usize, now: u64) {
-        let place = self.place();
-        let token = Token(behind.saturating_add(place));
-        if let Some(found) = self.places.get_mut(place) {
+        let slot = self.slot();
+        let token = Token(behind.saturating_add(slot));
+        if let Some(found) = self.slots.get_mut(slot) {
             *found = part(stream, registry, token, now).ok();
         }
     }
 
     /// An event of the connection at a place.
-    pub(crate) fn hear(&mut self, place: usize, registry: &Registry, token: Token, piece: &mut [u8])
+    pub(crate) fn hear(&mut self, slot: usize, registry: &Registry, token: Token, piece: &mut [u8])
         ensures { length piece.new ≡ length piece.old }
     {
-        let Some(found) = self.places.get_mut(place) else {
+        let Some(found) = self.slots.get_mut(slot) else {
             return;
         };
         let Some(mut parting) = found.take() else {
@@ -111,7 +111,7 @@ impl Partings {
 
     /// Closes those whose time is up.
     pub(crate) fn close_late(&mut self, now: u64) {
-        for found in self.places.iter_mut() {
+        for found in self.slots.iter_mut() {
             let is_late = match found {
                 Some(parting) => now.saturating_sub(parting.since) >= LINGER_MS,
                 None => false,

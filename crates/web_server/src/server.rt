@@ -2,12 +2,12 @@
 
 ghost use Rattle.std.specs.Prelude.{◌≡◌, ◌+◌, ◌<◌, ◌≤◌, [], ◌∷◌, None, true, replicate, slice_get, IfOk, IsOkUnless};
 ghost use Rattle.web_cli.specs.declared.fault.RunFault.TheVariants.{Listen};
-ghost use Rattle.web_turns.specs.Contexts.{KeepsLent};
-ghost use Rattle.web_turns.specs.Halls.{IsFree, LetsIn, at_place, callers, place_needs, place_unsent, with_place};
+ghost use Rattle.web_connections.specs.Contexts.{KeepsLent};
+ghost use Rattle.web_connections.specs.Connections.{IsFree, LetsIn, at_slot, callers, slot_needs, slot_unsent, with_slot};
 ghost use Rattle.web_server.specs.Hosted.{HostsBy};
 ghost use Rattle.web_server.specs.GivingWay.{GoesFirst, MakesRoom, NobodyIsThere, load_at, load_to, readiness_at};
 ghost use Rattle.web_server.specs.Timeouts.{EndsLate, is_late, timers_after, stays};
-ghost use Rattle.web_server.specs.Rounds.{Clears, Rearranged, Reseats};
+ghost use Rattle.web_server.specs.Rounds.{Clears, Rearranged, Reassigns};
 ghost use Rattle.web_sockets.specs.Comers.{as_begun};
 
 use crate::clock::System;
@@ -21,10 +21,10 @@ use std::time::Clock;
 use web_cli::{Console, RunFault};
 use web_connection::Desk;
 use web_sockets::{Comer, Ends, Event, Network};
-use web_turns::{Context, Hall, Needs};
+use web_connections::{Context, Connections, Needs};
 
 /// How many callers are there at once at most.
-pub(crate) const PLACES: usize = 128;
+pub(crate) const SLOTS: usize = 128;
 
 /// How many are let in at most before the others have their turns.
 const AT_ONCE: u32 = 16;
@@ -33,7 +33,7 @@ const AT_ONCE: u32 = 16;
 #[derive(Drop)]
 pub(crate) struct Server<'a, R, E: Ends> {
     log: &'a Log<'a, R>,
-    hall: Hall<E>,
+    connections: Connections<E>,
     timers: Vec<Timer>,
     // How many more callers are let in.
     left: u64,
@@ -46,14 +46,14 @@ pub(crate) struct Server<'a, R, E: Ends> {
 impl<'a, R: Clock + System + Console, E: Ends> Server<'a, R, E> {
     /// A house into which nobody came yet.
     pub(crate) fn new(alloc: Global, log: &'a Log<'a, R>, left: u64) -> Result<Self, AllocError>
-        ensures hall { IfOk result (λ server. server.hall ≡ callers 0 (replicate 128 None)) }
+        ensures connections { IfOk result (λ server. server.connections ≡ callers 0 (replicate 128 None)) }
         ensures left { IfOk result (λ server. server.left ≡ left) }
     {
-        let hall = Hall::new(alloc, PLACES)?;
-        let timers = vec![in alloc; Timer::new(0); PLACES]?;
+        let connections = Connections::new(alloc, SLOTS)?;
+        let timers = vec![in alloc; Timer::new(0); SLOTS]?;
         Ok(Server {
             log,
-            hall,
+            connections,
             timers,
             left,
             knocks: true,
@@ -63,10 +63,10 @@ impl<'a, R: Clock + System + Console, E: Ends> Server<'a, R, E> {
 
     // Whether no caller is there, and no connection that ended either.
     fn is_empty<N: Network<E>>(&self, network: &N) -> bool
-        ensures { result ≡ true → NobodyIsThere self.now.hall }
+        ensures { result ≡ true → NobodyIsThere self.now.connections }
     {
-        for place in 0..PLACES {
-            if self.hall.needs(place) != Needs::Nothing {
+        for slot in 0..SLOTS {
+            if self.connections.needs(slot) != Needs::Nothing {
                 return false;
             }
         }
@@ -76,7 +76,7 @@ impl<'a, R: Clock + System + Console, E: Ends> Server<'a, R, E> {
     /// Whether all who were to be let in have come and gone.
     pub(crate) fn is_over<N: Network<E>>(&self, network: &N) -> bool
         ensures left { result ≡ true → self.now.left ≡ 0 }
-        ensures nobody { result ≡ true → NobodyIsThere self.now.hall }
+        ensures nobody { result ≡ true → NobodyIsThere self.now.connections }
     {
         self.left == 0 && self.is_empty(network)
     }
@@ -88,12 +88,12 @@ impl<'a, R: Clock + System + Console, E: Ends> Server<'a, R, E> {
         self.knocks
             && !self.wants
             && self.left > 0
-            && (self.hall.free_place().is_some() || self.first_to_go(now).is_some())
+            && (self.connections.free_slot().is_some() || self.first_to_go(now).is_some())
     }
 
     // Somebody is at the door.
     fn knock(&mut self)
-        ensures hall { self.new.hall ≡ self.old.hall }
+        ensures connections { self.new.connections ≡ self.old.connections }
         ensures left { self.new.left ≡ self.old.left }
     {
         self.knocks = true;
@@ -101,27 +101,27 @@ impl<'a, R: Clock + System + Console, E: Ends> Server<'a, R, E> {
 
     // The caller at a place leaves.
     #[tactic(auto, using(crate::proofs::RoundLemmas::clears_leaves, crate::proofs::RoundLemmas::clears_none))]
-    fn part<N: Network<E>>(&mut self, network: &mut N, place: usize, why: Parted, now: u64)
-        ensures leaves { self.new.hall ≡ with_place place None self.old.hall }
+    fn part<N: Network<E>>(&mut self, network: &mut N, slot: usize, why: Parted, now: u64)
+        ensures leaves { self.new.connections ≡ with_slot slot None self.old.connections }
         ensures listens { N.listens network.new ≡ N.listens network.old }
         ensures timers { self.new.timers.items ≡ self.old.timers.items }
-        ensures clears { Clears self.old.hall self.new.hall }
+        ensures clears { Clears self.old.connections self.new.connections }
         ensures left { self.new.left ≡ self.old.left }
         ensures came { N.came network.new ≡ N.came network.old }
     {
-        self.log.tell_parted(self.hall.number(place), why);
-        if let Some(ends) = self.hall.leave(place) {
+        self.log.tell_parted(self.connections.number(slot), why);
+        if let Some(ends) = self.connections.leave(slot) {
             network.part(ends, now);
         }
     }
 
     // A crowd with whoever is at a place.
-    fn load_at(&self, place: usize, load: Load) -> Load
-        ensures { result ≡ load_at (slice_get self.now.timers.items place)
-            (place_needs (at_place place self.now.hall)) load }
+    fn load_at(&self, slot: usize, load: Load) -> Load
+        ensures { result ≡ load_at (slice_get self.now.timers.items slot)
+            (slot_needs (at_slot slot self.now.connections)) load }
     {
-        match self.timers.get(place) {
-            Some(timer) => load.with(*timer, self.hall.needs(place)),
+        match self.timers.get(slot) {
+            Some(timer) => load.with(*timer, self.connections.needs(slot)),
             None => load,
         }
     }
@@ -129,36 +129,36 @@ impl<'a, R: Clock + System + Console, E: Ends> Server<'a, R, E> {
     // How many callers are between two requests, and how many within one.
     #[tactic(auto, using(crate::proofs::GivingWayLemmas::load_none, crate::proofs::GivingWayLemmas::load_next))]
     fn load(&self) -> Load
-        ensures { result ≡ load_to self.now.timers.items self.now.hall 128 }
+        ensures { result ≡ load_to self.now.timers.items self.now.connections 128 }
     {
         let mut load = Load::new();
-        for place in 0..PLACES {
-            load = self.load_at(place, load);
+        for slot in 0..SLOTS {
+            load = self.load_at(slot, load);
         }
         load
     }
 
     // How readily the place of a caller is given to another one, in the crowd of all.
     #[tactic(auto, unfolding(crate::specs::GivingWay::readiness_at))]
-    fn readiness(&self, place: usize, load: Load, now: u64) -> Option<u64>
-        requires { load ≡ load_to self.now.timers.items self.now.hall 128 }
-        ensures { result ≡ readiness_at self.now.timers.items self.now.hall now place }
+    fn readiness(&self, slot: usize, load: Load, now: u64) -> Option<u64>
+        requires { load ≡ load_to self.now.timers.items self.now.connections 128 }
+        ensures { result ≡ readiness_at self.now.timers.items self.now.connections now slot }
     {
-        let timer = self.timers.get(place)?;
-        timer.readiness(self.hall.needs(place), load, now)
+        let timer = self.timers.get(slot)?;
+        timer.readiness(self.connections.needs(slot), load, now)
     }
 
     // The place whose caller has to go first where another one comes: one of the greater group, of those within a request and those between two.
     fn first_to_go(&self, now: u64) -> Option<usize>
-        ensures { GoesFirst (readiness_at self.now.timers.items self.now.hall now) 128 result }
+        ensures { GoesFirst (readiness_at self.now.timers.items self.now.connections now) 128 result }
     {
         let load = self.load();
         let mut found = None;
         let mut most = 0;
-        for place in 0..PLACES {
-            if let Some(readiness) = self.readiness(place, load, now) {
+        for slot in 0..SLOTS {
+            if let Some(readiness) = self.readiness(slot, load, now) {
                 if found.is_none() || readiness > most {
-                    found = Some(place);
+                    found = Some(slot);
                     most = readiness;
                 }
             }
@@ -168,28 +168,28 @@ impl<'a, R: Clock + System + Console, E: Ends> Server<'a, R, E> {
 
     // A caller takes a place that is free.
     #[tactic(auto, using(crate::proofs::RoundLemmas::lets_one, crate::proofs::RoundLemmas::lets_nobody))]
-    fn seat<N: Network<E>>(
+    fn assign<N: Network<E>>(
         &mut self,
         alloc: Global,
         network: &mut N,
-        place: usize,
+        slot: usize,
         ends: E,
         now: u64,
     )
-        requires { IsFree place self.old.hall }
+        requires { IsFree slot self.old.connections }
         ensures listens { N.listens network.new ≡ N.listens network.old }
         ensures lets { LetsIn
-            (as_begun (E.left ends) (E.taken ends) ∷ []) self.old.hall self.new.hall }
+            (as_begun (E.left ends) (E.taken ends) ∷ []) self.old.connections self.new.connections }
         ensures came { N.came network.new ≡ N.came network.old }
         ensures left { self.new.left ≡ self.old.left }
-        ensures count { self.new.hall.came ≤ self.old.hall.came + 1 }
+        ensures count { self.new.connections.came ≤ self.old.connections.came + 1 }
     {
         let mut ends = ends;
-        if network.seat(place, &mut ends).is_err() {
+        if network.assign(slot, &mut ends).is_err() {
             return;
         }
-        if self.hall.let_in(alloc, place, ends).is_ok() {
-            if let Some(timer) = self.timers.get_mut(place) {
+        if self.connections.let_in(alloc, slot, ends).is_ok() {
+            if let Some(timer) = self.timers.get_mut(slot) {
                 *timer = Timer::new(now);
             }
         }
@@ -199,15 +199,15 @@ impl<'a, R: Clock + System + Console, E: Ends> Server<'a, R, E> {
     #[tactic(auto, using(crate::proofs::RoundLemmas::clears_none))]
     fn make_room<N: Network<E>>(&mut self, network: &mut N, now: u64)
         ensures listens { N.listens network.new ≡ N.listens network.old }
-        ensures room { MakesRoom (readiness_at self.old.timers.items self.old.hall now)
-            self.old.hall self.new.hall }
-        ensures clears { Clears self.old.hall self.new.hall }
+        ensures room { MakesRoom (readiness_at self.old.timers.items self.old.connections now)
+            self.old.connections self.new.connections }
+        ensures clears { Clears self.old.connections self.new.connections }
         ensures left { self.new.left ≡ self.old.left }
         ensures came { N.came network.new ≡ N.came network.old }
     {
-        if self.hall.free_place().is_none() {
-            if let Some(place) = self.first_to_go(now) {
-                self.part(network, place, Parted::GaveWay, now);
+        if self.connections.free_slot().is_none() {
+            if let Some(slot) = self.first_to_go(now) {
+                self.part(network, slot, Parted::GaveWay, now);
             }
         }
     }
@@ -218,21 +218,21 @@ impl<'a, R: Clock + System + Console, E: Ends> Server<'a, R, E> {
         requires { 0 < self.old.left }
         ensures listens { N.listens network.new ≡ N.listens network.old }
         ensures comes { Rearranged (as_begun (E.left ends) (E.taken ends) ∷ [])
-            self.old.hall self.new.hall }
-        ensures count { self.new.hall.came + self.new.left
-            ≤ self.old.hall.came + self.old.left }
+            self.old.connections self.new.connections }
+        ensures count { self.new.connections.came + self.new.left
+            ≤ self.old.connections.came + self.old.left }
         ensures came { N.came network.new ≡ N.came network.old }
     {
         self.left -= 1;
         self.make_room(network, now);
-        if let Some(place) = self.hall.free_place() {
-            self.seat(alloc, network, place, ends, now);
+        if let Some(slot) = self.connections.free_slot() {
+            self.assign(alloc, network, slot, ends, now);
         }
     }
 
     // Lets nobody in till the next look round, where somebody is there whose leaving frees what the system lacks.
     fn wait_for_files<N: Network<E>>(&mut self, network: &N) -> Result<bool, RunFault>
-        ensures hall { self.new.hall ≡ self.old.hall }
+        ensures connections { self.new.connections ≡ self.old.connections }
         ensures left { self.new.left ≡ self.old.left }
         ensures ends { IsOkUnless result Listen }
     {
@@ -244,7 +244,7 @@ impl<'a, R: Clock + System + Console, E: Ends> Server<'a, R, E> {
     }
 
     // Lets one in. Whether another one may be at the door.
-    #[tactic(auto, using(crate::proofs::RoundLemmas::reseats_of, crate::proofs::RoundLemmas::reseats_clears, crate::proofs::RoundLemmas::clears_none))]
+    #[tactic(auto, using(crate::proofs::RoundLemmas::reassigns_of, crate::proofs::RoundLemmas::reassigns_clears, crate::proofs::RoundLemmas::clears_none))]
     fn let_one_in<N: Network<E>>(
         &mut self,
         alloc: Global,
@@ -253,7 +253,7 @@ impl<'a, R: Clock + System + Console, E: Ends> Server<'a, R, E> {
     ) -> Result<bool, RunFault>
         requires { 0 < self.old.left }
         ensures listens { N.listens network.new ≡ N.listens network.old }
-        ensures reseats { Reseats self.old.hall self.new.hall self.old.left self.new.left
+        ensures reassigns { Reassigns self.old.connections self.new.connections self.old.left self.new.left
             (N.came network.old) (N.came network.new) }
         ensures ends { IsOkUnless result Listen }
     {
@@ -283,7 +283,7 @@ impl<'a, R: Clock + System + Console, E: Ends> Server<'a, R, E> {
         now: u64,
     ) -> Result<(), RunFault>
         ensures listens { N.listens network.new ≡ N.listens network.old }
-        ensures reseats { Reseats self.old.hall self.new.hall self.old.left self.new.left
+        ensures reassigns { Reassigns self.old.connections self.new.connections self.old.left self.new.left
             (N.came network.old) (N.came network.new) }
         ensures ends { IsOkUnless result Listen }
     {
@@ -302,21 +302,21 @@ impl<'a, R: Clock + System + Console, E: Ends> Server<'a, R, E> {
 
     // Behind a turn a caller whose conversation is over leaves, and any other one waits for what it needs.
     #[tactic(auto, using(crate::proofs::RoundLemmas::clears_none))]
-    fn note<N: Network<E>>(&mut self, network: &mut N, place: usize, before: Needs, now: u64)
+    fn note<N: Network<E>>(&mut self, network: &mut N, slot: usize, before: Needs, now: u64)
         ensures listens { N.listens network.new ≡ N.listens network.old }
-        ensures clears { Clears self.old.hall self.new.hall }
+        ensures clears { Clears self.old.connections self.new.connections }
         ensures left { self.new.left ≡ self.old.left }
         ensures came { N.came network.new ≡ N.came network.old }
-        ensures timers { self.new.timers.items ≡ timers_after place
-            (slice_get self.old.timers.items place) before
-            (place_needs (at_place place self.old.hall))
-            (place_unsent (at_place place self.old.hall)) now self.old.timers.items }
+        ensures timers { self.new.timers.items ≡ timers_after slot
+            (slice_get self.old.timers.items slot) before
+            (slot_needs (at_slot slot self.old.connections))
+            (slot_unsent (at_slot slot self.old.connections)) now self.old.timers.items }
     {
-        let after = self.hall.needs(place);
-        let unsent = self.hall.has_unsent(place);
+        let after = self.connections.needs(slot);
+        let unsent = self.connections.has_unsent(slot);
         if after == Needs::Nothing {
-            self.part(network, place, Parted::Done, now);
-        } else if let Some(timer) = self.timers.get_mut(place) {
+            self.part(network, slot, Parted::Done, now);
+        } else if let Some(timer) = self.timers.get_mut(slot) {
             *timer = timer.behind(before, after, unsent, now);
         }
     }
@@ -325,7 +325,7 @@ impl<'a, R: Clock + System + Console, E: Ends> Server<'a, R, E> {
     fn turn<N: Network<E>, L: Ledger, M: Ledger, T: Ticks, D: Desk + Attended>(
         &mut self,
         network: &mut N,
-        place: usize,
+        slot: usize,
         context: &mut Context<'_, L, M, T, D>,
         now: u64,
     )
@@ -334,17 +334,17 @@ impl<'a, R: Clock + System + Console, E: Ends> Server<'a, R, E> {
         ensures hosts { HostsBy T.Ticks D.serves context.old context.new self.old self.new
             (N.came network.old) (N.came network.new) }
     {
-        let before = self.hall.needs(place);
+        let before = self.connections.needs(slot);
         if before == Needs::Nothing {
             return;
         }
-        let number = self.hall.number(place);
+        let number = self.connections.number(slot);
         context.desk.attend(number.unwrap_or(0));
-        match self.hall.turn(place, context) {
-            Ok(()) => self.note(network, place, before, now),
+        match self.connections.turn(slot, context) {
+            Ok(()) => self.note(network, slot, before, now),
             Err(_) => {
                 self.log.tell_parted(number, Parted::Unreachable);
-                let _ = self.hall.leave(place);
+                let _ = self.connections.leave(slot);
             }
         }
     }
@@ -364,8 +364,8 @@ impl<'a, R: Clock + System + Console, E: Ends> Server<'a, R, E> {
     {
         match event {
             Event::Door => self.knock(),
-            Event::Place(place) => {
-                self.turn(network, place, context, now);
+            Event::Slot(slot) => {
+                self.turn(network, slot, context, now);
             }
             Event::Parted(parted) => {
                 let piece = &mut *context.piece;
@@ -375,45 +375,45 @@ impl<'a, R: Clock + System + Console, E: Ends> Server<'a, R, E> {
     }
 
     // Whether the time of whoever is at a place is up.
-    fn is_late(&self, place: usize, now: u64) -> bool
-        ensures { result ≡ is_late (slice_get self.now.timers.items place) now
-            (at_place place self.now.hall) }
+    fn is_late(&self, slot: usize, now: u64) -> bool
+        ensures { result ≡ is_late (slice_get self.now.timers.items slot) now
+            (at_slot slot self.now.connections) }
     {
-        match self.timers.get(place) {
-            Some(timer) => timer.is_up(self.hall.needs(place), now),
+        match self.timers.get(slot) {
+            Some(timer) => timer.is_up(self.connections.needs(slot), now),
             None => false,
         }
     }
 
     // The caller at a place leaves if its time is up.
     #[tactic(auto, using(crate::proofs::RoundLemmas::clears_none, crate::proofs::GivingWayLemmas::with_same))]
-    fn end_late<N: Network<E>>(&mut self, network: &mut N, place: usize, now: u64)
+    fn end_late<N: Network<E>>(&mut self, network: &mut N, slot: usize, now: u64)
         ensures listens { N.listens network.new ≡ N.listens network.old }
-        ensures ends { self.new.hall ≡ with_place place
-            (stays (slice_get self.old.timers.items place) now (at_place place self.old.hall))
-            self.old.hall }
+        ensures ends { self.new.connections ≡ with_slot slot
+            (stays (slice_get self.old.timers.items slot) now (at_slot slot self.old.connections))
+            self.old.connections }
         ensures timers { self.new.timers.items ≡ self.old.timers.items }
-        ensures clears { Clears self.old.hall self.new.hall }
+        ensures clears { Clears self.old.connections self.new.connections }
         ensures left { self.new.left ≡ self.old.left }
         ensures came { N.came network.new ≡ N.came network.old }
     {
-        if self.is_late(place, now) {
-            self.part(network, place, Parted::Late, now);
+        if self.is_late(slot, now) {
+            self.part(network, slot, Parted::Late, now);
         }
     }
 
     /// Ends what takes too long, and looks at the door again where there was no file for a caller.
     pub(crate) fn look_round<N: Network<E>>(&mut self, network: &mut N, now: u64)
         ensures listens { N.listens network.new ≡ N.listens network.old }
-        ensures late { EndsLate self.old.timers.items now self.old.hall self.new.hall }
-        ensures clears { Clears self.old.hall self.new.hall }
+        ensures late { EndsLate self.old.timers.items now self.old.connections self.new.connections }
+        ensures clears { Clears self.old.connections self.new.connections }
         ensures left { self.new.left ≡ self.old.left }
         ensures came { N.came network.new ≡ N.came network.old }
     {
         self.wants = false;
         network.look_round(now);
-        for place in 0..PLACES {
-            self.end_late(network, place, now);
+        for slot in 0..SLOTS {
+            self.end_late(network, slot, now);
         }
     }
 }

@@ -4,8 +4,8 @@ ghost use Rattle.std.specs.Prelude.{◌≡◌, ◌-◌, None, false, true, nat_l
 ghost use Rattle.base_devices.specs.Blanks.{IsBlankOf};
 ghost use Rattle.web_connection.specs.Run.{AtTick};
 ghost use Rattle.web_cli.specs.declared.fault.RunFault.TheVariants.{Listen};
-ghost use Rattle.web_turns.specs.Acts.{between};
-ghost use Rattle.web_turns.specs.Contexts.{KeepsLent};
+ghost use Rattle.web_connections.specs.Acts.{between};
+ghost use Rattle.web_connections.specs.Contexts.{KeepsLent};
 ghost use Rattle.web_server.specs.Hosted.{HostsBy};
 ghost use Rattle.web_server.specs.Timeouts.{EndsLate};
 ghost use Rattle.web_server.specs.Rounds.{AnswersCallers, Clears, Hosts, RoundsEnd, most_of};
@@ -22,7 +22,7 @@ use std::time::{Clock, Instant};
 use web_cli::{Console, RunFault};
 use web_connection::{Desk, Piece};
 use web_sockets::{Ends, Network};
-use web_turns::Context;
+use web_connections::Context;
 
 /// How much is heard at most before a house looks round.
 const AT_ONCE: u32 = 256;
@@ -87,8 +87,8 @@ fn look_if_due<R: Clock + System + Console, E: Ends, N: Network<E>>(
 )
     ensures listens { N.listens network.new ≡ N.listens network.old }
     ensures late { nat_le 250 (watch.old.now - watch.old.looked) ≡ true
-        → EndsLate server.old.timers.items now server.old.hall server.new.hall }
-    ensures clears { Clears server.old.hall server.new.hall }
+        → EndsLate server.old.timers.items now server.old.connections server.new.connections }
+    ensures clears { Clears server.old.connections server.new.connections }
     ensures left { server.new.left ≡ server.old.left }
     ensures came { N.came network.new ≡ N.came network.old }
 {
@@ -209,9 +209,9 @@ fn serve_with<
     ensures listens { N.listens network.new ≡ N.listens network.old }
     ensures hosts { Hosts (AtTick T.reads D.serves)
         (between (T.told ticks.old) desk.old) (between (T.told ticks.new) desk.new)
-        server.old.hall server.new.hall server.old.left server.new.left
+        server.old.connections server.new.connections server.old.left server.new.left
         (N.came network.old) (N.came network.new) }
-    ensures ends { RoundsEnd result server.old.hall server.new.hall }
+    ensures ends { RoundsEnd result server.old.connections server.new.connections }
 {
     let Ok(start) = Instant::now(host.rt) else {
         return Err(RunFault::Listen);

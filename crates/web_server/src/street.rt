@@ -2,7 +2,7 @@
 
 ghost use Rattle.std.specs.Prelude.{◌≡◌, None, IfOk};
 
-use crate::server::PLACES;
+use crate::server::SLOTS;
 use crate::parting::Partings;
 use base_devices::Refused;
 use mio::net::TcpListener;
@@ -51,10 +51,10 @@ fn is_callers(error: &io::Error) -> bool {
 fn event_of(token: Token) -> Event {
     if token == DOOR {
         Event::Door
-    } else if token.0 < PLACES {
-        Event::Place(token.0)
+    } else if token.0 < SLOTS {
+        Event::Slot(token.0)
     } else {
-        Event::Parted(token.0 - PLACES)
+        Event::Parted(token.0 - SLOTS)
     }
 }
 
@@ -82,7 +82,7 @@ impl<'a, R> Street<'a, R> {
         ensures { IfOk result (λ street. street.at ≡ None) }
     {
         let events = Events::with_capacity(alloc, EVENTS)?;
-        let partings = Partings::new(alloc, PLACES)?;
+        let partings = Partings::new(alloc, SLOTS)?;
         Ok(Street {
             rt,
             poll,
@@ -137,15 +137,15 @@ impl<'a, R: Net<Listener = std::net::TcpListener, Stream = std::net::TcpStream>>
         }
     }
 
-    fn seat(&mut self, place: usize, ends: &mut Peer<Tcp<'a>>) -> Result<(), Refused> {
+    fn assign(&mut self, slot: usize, ends: &mut Peer<Tcp<'a>>) -> Result<(), Refused> {
         let wire = &mut ends.wire;
-        wire.token = Token(place);
+        wire.token = Token(slot);
         if wire.stream.set_nodelay(true).is_err() {
             return Err(Refused);
         }
         match self
             .registry
-            .register(&mut wire.stream, Token(place), Interest::READABLE)
+            .register(&mut wire.stream, Token(slot), Interest::READABLE)
         {
             Ok(()) => Ok(()),
             Err(_) => Err(Refused),
@@ -172,11 +172,11 @@ impl<'a, R: Net<Listener = std::net::TcpListener, Stream = std::net::TcpStream>>
     fn part(&mut self, ends: Peer<Tcp<'a>>, now: u64) {
         let Peer { wire } = ends;
         let Tcp { stream, .. } = wire;
-        self.partings.add(stream, self.registry, PLACES, now);
+        self.partings.add(stream, self.registry, SLOTS, now);
     }
 
     fn see_off(&mut self, parted: usize, buffer: &mut [u8]) {
-        let token = Token(PLACES.saturating_add(parted));
+        let token = Token(SLOTS.saturating_add(parted));
         self.partings.hear(parted, self.registry, token, buffer);
     }
 

@@ -4,7 +4,7 @@ ghost use Rattle.std.specs.Prelude.{◌≡◌, ◌&&◌, ◌||◌, None, Some, n
 ghost use Rattle.web_server.specs.GivingWay.{MayGo, beyond, readiness_of};
 ghost use Rattle.web_server.specs.Timeouts.{load_with, is_up, sends_too_long, timer_after};
 
-use web_turns::Needs;
+use web_connections::Needs;
 
 /// How long it waits between two requests, in milliseconds.
 const IDLE_TIMEOUT_MS: u64 = 60_000;

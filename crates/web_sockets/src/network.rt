@@ -27,7 +27,7 @@ pub enum Event {
     /// The door: somebody may be there.
     Door,
     /// The caller at a place.
-    Place(usize),
+    Slot(usize),
     /// A connection that ended, which the network sees off by itself.
     Parted(usize),
 }
@@ -52,7 +52,7 @@ pub trait Network<E: Ends> {
         ensures came { ComesNext E.left E.taken result (came self.old) (came self.new) };
 
     /// A caller has this place from now on: what is to be heard of it comes under that.
-    fn seat(&mut self, place: usize, ends: &mut E) -> Result<(), Refused>
+    fn assign(&mut self, slot: usize, ends: &mut E) -> Result<(), Refused>
         ensures listens { listens self.new ≡ listens self.old }
         ensures came { came self.new ≡ came self.old }
         ensures left { E.left ends.new ≡ E.left ends.old }

@@ -6,7 +6,7 @@ use Rattle.web_connection.specs.Run.{AtTick}
 use Rattle.web_arrivals.specs.Streams.{ServesHistory}
 use Rattle.web_handler.specs.Streams.{words_of}
 use Rattle.web_server.specs.Rounds.{most_of}
-use Rattle.web_turns.specs.Acts.{between}
+use Rattle.web_connections.specs.Acts.{between}
 use Rattle.app_files.specs.Served.{OpensAs}
 use Rattle.app_files.proofs.ServedLemmas.{answers_by, runs_as, served_of}
 use Rattle.app_files.proofs.laws.what_is_served_goes_on.Goals as goal
@@ -22,7 +22,7 @@ returns g c = λ house begun r es most before after left outcome on found served
     let new = between None served.leads.last in
     let sure = subst (λ it. HasCleanDisk (state g.S.Store it)) served.leads.connection clean in
     let came = served_of _ (most_of most) old new outcome served.leads.serving in
-    let y = c.callers_go_on_with_a_history.ensures house begun running events came.came old new came.all came.hall sure there.of there.happened there.running in (
+    let y = c.callers_go_on_with_a_history.ensures house begun running events came.came old new came.all came.connections sure there.of there.happened there.running in (
       y.0,
       y.1,
       answers_by _ (AtTick g.K.Ticks.reads (ServesHistory house)) (most_of most) old new (between None events) (between None y.0) outcome served.leads.serving y.2,

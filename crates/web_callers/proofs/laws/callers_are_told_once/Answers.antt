@@ -3,5 +3,5 @@ use Rattle.web_callers.proofs.LawLemmas.{told_once}
 use Rattle.web_callers.proofs.laws.callers_are_told_once.Goals as goal
 
 pub returns : goal.returns
-returns g c = λ house p ds came old new all hall sure of stands.
-    told_once (trait_meaning g.T.Tables) g.K.Ticks.reads house came old new all hall sure of p ds stands
+returns g c = λ house p ds came old new all connections sure of stands.
+    told_once (trait_meaning g.T.Tables) g.K.Ticks.reads house came old new all connections sure of p ds stands

@@ -3,5 +3,5 @@ use Rattle.web_callers.proofs.LawLemmas.{run_on}
 use Rattle.web_callers.proofs.laws.callers_run_on.Goals as goal
 
 pub returns : goal.returns
-returns g c = λ house r came old new all hall sure of running.
-    run_on (trait_meaning g.T.Tables) g.K.Ticks.reads house came old new all hall sure of r running
+returns g c = λ house r came old new all connections sure of running.
+    run_on (trait_meaning g.T.Tables) g.K.Ticks.reads house came old new all connections sure of r running

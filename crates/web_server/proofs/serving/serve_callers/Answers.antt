@@ -1,7 +1,7 @@
 use Rattle.std.proofs.Common.{arith, inr, refl, subst}
 use Rattle.web_connection.specs.Run.{AtTick}
-use Rattle.web_turns.specs.Acts.{between}
-use Rattle.web_turns.specs.Halls.{Callers}
+use Rattle.web_connections.specs.Acts.{between}
+use Rattle.web_connections.specs.Connections.{Callers}
 use Rattle.web_server.specs.Rounds.{RoundsEnd, most_of}
 use Rattle.web_server.proofs.RoundLemmas.{answers_all, answers_none}
 use Rattle.web_server.proofs.serving.serve_callers.Goals as goal
@@ -11,12 +11,12 @@ returns-in-Ok-clause-answers g c =
     let S = AtTick g.T.Ticks.reads g.D.Desk.serves in
     let from = between (g.T.Ticks.told c.args.ticks.now) c.args.desk.now in
     let to = between (g.T.Ticks.told c.serve_with.new.ticks) c.serve_with.new.desk in
-    let hall = c.serve_with.new.server.hall in
-    let count = rw (c.in-Ok.ensures.hall, c.in-Ok.ensures.left) at c.serve_with.ensures.hosts.count in
-    answers_all S from to 128 (most_of c.args.connections) _ _ hall _ _ c.serve_with.result
+    let connections = c.serve_with.new.server.connections in
+    let count = rw (c.in-Ok.ensures.connections, c.in-Ok.ensures.left) at c.serve_with.ensures.hosts.count in
+    answers_all S from to 128 (most_of c.args.connections) _ _ connections _ _ c.serve_with.result
     (omega (arith, count))
-    (rw c.in-Ok.ensures.hall at c.serve_with.ensures.hosts)
-    (subst (λ (h : Callers). RoundsEnd c.serve_with.result h hall) c.in-Ok.ensures.hall c.serve_with.ensures.ends)
+    (rw c.in-Ok.ensures.connections at c.serve_with.ensures.hosts)
+    (subst (λ (h : Callers). RoundsEnd c.serve_with.result h connections) c.in-Ok.ensures.connections c.serve_with.ensures.ends)
 
 pub returns-in-Err-clause-answers : goal.returns-in-Err-clause-answers
 returns-in-Err-clause-answers g c = answers_none (AtTick g.T.Ticks.reads g.D.Desk.serves) _ _ _ _ _ _ refl refl (inr refl)

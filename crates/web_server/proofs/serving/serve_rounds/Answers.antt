@@ -1,7 +1,7 @@
 use Rattle.std.proofs.Common.{refl, ◌∙◌}
 use Rattle.web_connection.specs.Run.{AtTick}
-use Rattle.web_turns.specs.Contexts.{between_at}
-use Rattle.web_turns.proofs.ContextLemmas.{kept_more, kept_same}
+use Rattle.web_connections.specs.Contexts.{between_at}
+use Rattle.web_connections.proofs.ContextLemmas.{kept_more, kept_same}
 use Rattle.web_server.proofs.RoundLemmas.{hosts_more, hosts_none}
 use Rattle.web_server.proofs.serving.serve_rounds.Goals as goal
 

@@ -1,5 +1,5 @@
 use Rattle.std.proofs.Common.{◌≡◌}
-use Rattle.web_turns.specs.Contexts.{KeepsLent}
+use Rattle.web_connections.specs.Contexts.{KeepsLent}
 use Rattle.web_server.specs.Hosted.{HostsBy}
 use Rattle.web_server.proofs.serving.serve_rounds.Given as goal
 

@@ -1,7 +1,7 @@
 use Rattle.std.proofs.Common.{◌≡◌, ℕ, ◌<◌}
-use Rattle.web_turns.specs.declared.stage.Needs.TheVariants as needs
-use Rattle.web_turns.specs.Halls.{at_place, place_needs}
+use Rattle.web_connections.specs.declared.phase.Needs.TheVariants as needs
+use Rattle.web_connections.specs.Connections.{at_slot, slot_needs}
 use Rattle.web_server.proofs.server.Server.is_empty.Given as goal
 
-abbrev pub invariant-loop-place : goal.invariant-loop-place
-invariant-loop-place g l = (k : ℕ) → k < l.place → place_needs (at_place k l.self.hall) ≡ needs.Nothing
+abbrev pub invariant-loop-slot : goal.invariant-loop-slot
+invariant-loop-slot g l = (k : ℕ) → k < l.slot → slot_needs (at_slot k l.self.connections) ≡ needs.Nothing

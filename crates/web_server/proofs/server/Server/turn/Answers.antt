@@ -1,7 +1,7 @@
 use Rattle.std.proofs.Common.{arith, refl}
 use Rattle.web_connection.specs.Run.{AtTick}
-use Rattle.web_turns.specs.Contexts.{between_at}
-use Rattle.web_server.proofs.RoundLemmas.{clears_leaves, hosts_more, hosts_none, hosts_of, hosts_turn, reseats_clears}
+use Rattle.web_connections.specs.Contexts.{between_at}
+use Rattle.web_server.proofs.RoundLemmas.{clears_leaves, hosts_more, hosts_none, hosts_of, hosts_turn, reassigns_clears}
 use Rattle.web_server.proofs.server.Server.turn.Goals as goal
 
 pub returns-then-eq-clause-hosts : goal.returns-then-eq-clause-hosts
@@ -13,13 +13,13 @@ returns-in-Ok-clause-hosts g c =
     let from = between_at g.T.Ticks c.args.context.now in
     let to = between_at g.T.Ticks c.turn.new.context in
     let note = c.note.ensures in
-    hosts_more S from to to _ _ _ _ _ _ _ _ _ (hosts_turn S from to _ _ _ c.args.place _ (rw (c.attend.ensures) at c.turn.ensures.turn))
-    (hosts_of S to to _ _ _ _ _ _ refl (reseats_clears _ _ _ _ _ _ note.clears (omega (arith, note.left)) note.came))
+    hosts_more S from to to _ _ _ _ _ _ _ _ _ (hosts_turn S from to _ _ _ c.args.slot _ (rw (c.attend.ensures) at c.turn.ensures.turn))
+    (hosts_of S to to _ _ _ _ _ _ refl (reassigns_clears _ _ _ _ _ _ note.clears (omega (arith, note.left)) note.came))
 
 pub returns-in-Err-clause-hosts : goal.returns-in-Err-clause-hosts
 returns-in-Err-clause-hosts g c =
     let S = AtTick g.T.Ticks.reads g.D.Desk.serves in
     let from = between_at g.T.Ticks c.args.context.now in
     let to = between_at g.T.Ticks c.turn.new.context in
-    hosts_more S from to to _ _ _ _ _ _ _ _ _ (hosts_turn S from to _ _ _ c.args.place _ (rw (c.attend.ensures) at c.turn.ensures.turn))
-    (hosts_of S to to _ _ _ _ _ _ refl (reseats_clears _ _ _ _ _ _ (clears_leaves _ _ c.args.place c.leave.ensures.free) (omega arith) refl))
+    hosts_more S from to to _ _ _ _ _ _ _ _ _ (hosts_turn S from to _ _ _ c.args.slot _ (rw (c.attend.ensures) at c.turn.ensures.turn))
+    (hosts_of S to to _ _ _ _ _ _ refl (reassigns_clears _ _ _ _ _ _ (clears_leaves _ _ c.args.slot c.leave.ensures.free) (omega arith) refl))

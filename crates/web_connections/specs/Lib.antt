@@ -1,0 +1,4 @@
+pub mod Acts
+pub mod Contexts
+pub mod Exchanges
+pub mod Connections

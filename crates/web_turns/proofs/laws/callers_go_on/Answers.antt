@@ -1,6 +1,0 @@
-use Rattle.web_connection.specs.Run.{AtTick}
-use Rattle.web_turns.proofs.StoryLemmas.{all_on}
-use Rattle.web_turns.proofs.laws.callers_go_on.Goals as goal
-
-pub returns : goal.returns
-returns g c = λ from to came old new order does. all_on (AtTick g.T.Ticks.reads g.D.Desk.serves) from to came old new order does

@@ -1,6 +1,0 @@
-use Rattle.web_connection.specs.Run.{AtTick}
-use Rattle.web_turns.proofs.StoryLemmas.{own_story}
-use Rattle.web_turns.proofs.laws.each_has_its_own.Goals as goal
-
-pub returns : goal.returns
-returns g c = λ from to came count now order does. own_story (AtTick g.T.Ticks.reads g.D.Desk.serves) from to came count now order does

@@ -1,4 +1,0 @@
-pub mod Acts
-pub mod Contexts
-pub mod Talks
-pub mod Halls
