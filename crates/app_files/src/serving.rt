@@ -19,7 +19,7 @@ use std::net::{Net, TcpListener, TcpStream};
 use std::time::Clock;
 use web_cli::{Console, Place, RunFault};
 use web_handler::{HouseWords, ShopDesk};
-use web_server::{Log, Noted, System, serve_street};
+use web_server::{Log, Noted, System, serve_tcp};
 
 // Serves a desk, and hands back the connection of its tables.
 fn serve_desk<
@@ -41,7 +41,7 @@ fn serve_desk<
         place.now.connections desk result.connection result.outcome }
 {
     let mut noted = Noted::new(log, desk);
-    let outcome = serve_street(rt, alloc, log, place, &mut noted, writer);
+    let outcome = serve_tcp(rt, alloc, log, place, &mut noted, writer);
     Filed {
         connection: noted.into_desk().into_tables().into_connection(),
         outcome,

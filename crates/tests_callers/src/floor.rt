@@ -13,12 +13,12 @@ use web_connections::{Context, Connections, Next};
 #[derive(Drop)]
 pub(crate) struct Floor<'a> {
     connections: Connections<Script<'a>>,
-    comers: Vec<Script<'a>>,
+    callers_to_come: Vec<Script<'a>>,
     told: Vec<Vec<u8>>,
 }
 
 // Whoever is to come, the last of them first.
-fn comers<'a>(alloc: Global, guests: &'a [Guest<'a>]) -> Result<Vec<Script<'a>>, AllocError> {
+fn callers_to_come<'a>(alloc: Global, guests: &'a [Guest<'a>]) -> Result<Vec<Script<'a>>, AllocError> {
     let mut all = Vec::new(alloc);
     for guest in guests.iter().rev() {
         all.push(Script::new(
@@ -48,9 +48,9 @@ impl<'a> Floor<'a> {
         guests: &'a [Guest<'a>],
     ) -> Result<Floor<'a>, AllocError> {
         let connections = Connections::new(alloc, slots)?;
-        let comers = comers(alloc, guests)?;
+        let callers_to_come = callers_to_come(alloc, guests)?;
         let told = empty_texts(alloc, guests.len())?;
-        Ok(Floor { connections, comers, told })
+        Ok(Floor { connections, callers_to_come, told })
     }
 
     // Whoever is at a place leaves. What it was told is kept under its number.
@@ -73,8 +73,8 @@ impl<'a> Floor<'a> {
         if let Next::Leaves(slot) = next {
             return self.leave(slot);
         }
-        let (connections, comers) = (&mut self.connections, &mut self.comers);
-        serve_turns(context, connections, comers, &[next]);
+        let (connections, callers_to_come) = (&mut self.connections, &mut self.callers_to_come);
+        serve_turns(context, connections, callers_to_come, &[next]);
     }
 
     /// All leave: what each caller was told, by its number.

@@ -2,9 +2,9 @@
 
 ghost use Rattle.std.specs.Prelude.{List};
 ghost use Rattle.web_connection.specs.Run.{AtTick};
-ghost use Rattle.web_sockets.specs.Comers.{Begun};
+ghost use Rattle.web_sockets.specs.Accepting.{Begun};
 ghost use Rattle.web_connections.specs.Contexts.{KeepsLent, between_at};
-ghost use Rattle.web_connections.specs.Connections.{Does, DoesAll, LetsIn};
+ghost use Rattle.web_connections.specs.Connections.{Does, DoesAll, AcceptsOne};
 
 use base_devices::Ticks;
 use std::alloc::Global;
@@ -15,23 +15,23 @@ use web_connections::{Context, Connections, Next};
 
 // The last of those who are to come, to a place that is free.
 #[tactic(auto, using(crate::proofs::ComeLemmas::nobody_came, crate::proofs::ComeLemmas::one_came))]
-fn come_in<E: Ends>(alloc: Global, connections: &mut Connections<E>, comers: &mut Vec<E>)
-    ensures { (came : List Begun) × LetsIn came connections.old connections.new }
+fn accept_next<E: Ends>(alloc: Global, connections: &mut Connections<E>, callers_to_come: &mut Vec<E>)
+    ensures { (came : List Begun) × AcceptsOne came connections.old connections.new }
 {
     let Some(slot) = connections.free_slot() else {
         return;
     };
-    let Some(ends) = comers.pop() else {
+    let Some(ends) = callers_to_come.pop() else {
         return;
     };
-    let _ = connections.let_in(alloc, slot, ends);
+    let _ = connections.accept(alloc, slot, ends);
 }
 
 // What is next.
 fn do_next<E: Ends, L: Ledger, M: Ledger, T: Ticks, D: Desk>(
     context: &mut Context<'_, L, M, T, D>,
     connections: &mut Connections<E>,
-    comers: &mut Vec<E>,
+    callers_to_come: &mut Vec<E>,
     next: Next,
 )
     ensures keeps { KeepsLent context.old context.new }
@@ -40,7 +40,7 @@ fn do_next<E: Ends, L: Ledger, M: Ledger, T: Ticks, D: Desk>(
         came connections.old connections.new next }
 {
     match next {
-        Next::Comes => come_in(context.alloc, connections, comers),
+        Next::Comes => accept_next(context.alloc, connections, callers_to_come),
         Next::Turn(slot) => {
             let _ = connections.turn(slot, context);
         }
@@ -55,7 +55,7 @@ fn do_next<E: Ends, L: Ledger, M: Ledger, T: Ticks, D: Desk>(
 pub fn serve_turns<E: Ends, L: Ledger, M: Ledger, T: Ticks, D: Desk>(
     context: &mut Context<'_, L, M, T, D>,
     connections: &mut Connections<E>,
-    comers: &mut Vec<E>,
+    callers_to_come: &mut Vec<E>,
     order: &[Next],
 )
     ensures keeps { KeepsLent context.old context.new }
@@ -64,6 +64,6 @@ pub fn serve_turns<E: Ends, L: Ledger, M: Ledger, T: Ticks, D: Desk>(
         came connections.old connections.new order.now }
 {
     for next in order {
-        do_next(context, connections, comers, *next);
+        do_next(context, connections, callers_to_come, *next);
     }
 }

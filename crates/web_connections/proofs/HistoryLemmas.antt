@@ -7,12 +7,12 @@ use Rattle.base_devices.specs.declared.device.Tick.{Tick}
 use Rattle.base_devices.specs.Told.{Adds}
 use Rattle.base_devices.proofs.ToldLemmas.{Adds-nil, Adds-append}
 use Rattle.web_http.specs.Messages.{Message}
-use Rattle.web_sockets.specs.Comers.{Begun}
+use Rattle.web_sockets.specs.Accepting.{Begun}
 use Rattle.web_connections.specs.declared.turns.Next.{Next}
 use Rattle.web_connections.specs.declared.turns.Next.TheVariants as nexts
 use Rattle.web_connections.specs.Acts.{Act, Acts, Between, ticks}
 use Rattle.web_connections.specs.Exchanges.{ConnectionState, Exchanges, Turn, connection_begun}
-use Rattle.web_connections.specs.Connections.{AreAmong, AreInSlots, Caller, Callers, Does, DoesAll, GoesOn, Connections, Heard, IsFree, IsGone, LeadsOn, LetsIn, Serving, History, TakesTurn, acts_of, at_slot, caller, callers, nobody, of, state_begun, history, with_caller, with_slot}
+use Rattle.web_connections.specs.Connections.{AreAmong, AreInSlots, Caller, Callers, Does, DoesAll, GoesOn, Connections, Heard, IsFree, IsGone, LeadsOn, AcceptsOne, Serving, History, TakesTurn, acts_of, at_slot, caller, callers, nobody, of, state_begun, history, with_caller, with_slot}
 use Rattle.web_connections.proofs.RecordLemmas.{Acts-append, ticks-append}
 use Rattle.web_connections.proofs.TurnLemmas.{exchanges_begin}
 use Rattle.web_connections.proofs.ConnectionLemmas.{acts_heard, acts_of-append, are-append, are_by, are_more, heard_by, of-append, of_later, of_other, of_own}
@@ -376,7 +376,7 @@ module _ {D : Type 0} (Serves : D → Tick → Message → Answer → D → Type
         among_none came,
       )
 
-  comes_on : (from to : Between D) (came : List Begun) (old new : Callers) → to ≡ from → LetsIn came old new → LeadsOn Serves from to came old new
+  comes_on : (from to : Between D) (came : List Begun) (old new : Callers) → to ≡ from → AcceptsOne came old new → LeadsOn Serves from to came old new
   unfolding goes_come
   comes_on from to [] old new same is first till serving = with_none first from to old new till [] same is serving
   comes_on from to (b ∷ bs) old new same (alone, inl is) first till serving = with_none first from to old new till (b ∷ bs) same is serving

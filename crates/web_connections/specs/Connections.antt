@@ -5,7 +5,7 @@ use Rattle.base_devices.specs.declared.device.Tick.{Tick}
 use Rattle.base_devices.specs.Told.{Adds}
 use Rattle.web_http.specs.Messages.{Message}
 use Rattle.web_http.specs.Framed.{Framed}
-use Rattle.web_sockets.specs.Comers.{Begun}
+use Rattle.web_sockets.specs.Accepting.{Begun}
 use Rattle.web_connections.specs.declared.phase.Needs.{Needs}
 use Rattle.web_connections.specs.declared.phase.Needs.TheVariants as needs
 use Rattle.web_connections.specs.declared.phase.Phase.TheVariants as phases
@@ -106,13 +106,13 @@ abbrev pub state_begun : Begun → ConnectionState
 state_begun b = connection_begun b.coming b.gone
 
 -- Nobody comes; or one does, who takes a place that is free, or none.
-abbrev pub LetsIn : List Begun → Callers → Callers → Type 0
-LetsIn [] old new = new ≡ old
-LetsIn (b ∷ bs) old new = (bs ≡ []) × ((new ≡ old) ⊎ ((slot : ℕ) × IsFree slot old × (new ≡ with_caller slot (state_begun b) old)))
+abbrev pub AcceptsOne : List Begun → Callers → Callers → Type 0
+AcceptsOne [] old new = new ≡ old
+AcceptsOne (b ∷ bs) old new = (bs ≡ []) × ((new ≡ old) ⊎ ((slot : ℕ) × IsFree slot old × (new ≡ with_caller slot (state_begun b) old)))
 
 -- a single thing that happens: somebody comes, or has a turn, or leaves
 abbrev pub Does : {D : Type 0} → (D → Tick → Message → Answer → D → Type 0) → Between D → Between D → List Begun → Callers → Callers → Next → Type 0
-Does Serves from to came old new nexts.Comes = (to ≡ from) × LetsIn came old new
+Does Serves from to came old new nexts.Comes = (to ≡ from) × AcceptsOne came old new
 Does Serves from to came old new (nexts.Turn slot) = (came ≡ []) × TurnsAt Serves from to slot old new
 Does Serves from to came old new (nexts.Leaves slot) = (came ≡ []) × (to ≡ from) × (new ≡ with_slot slot None old)
 

@@ -119,7 +119,7 @@ impl<E: Ends> Connections<E> {
     }
 
     /// A caller comes in, to a place that is free.
-    pub fn let_in(&mut self, alloc: Global, slot: usize, ends: E) -> Result<(), AllocError>
+    pub fn accept(&mut self, alloc: Global, slot: usize, ends: E) -> Result<(), AllocError>
         requires { IsFree slot self.old }
         ensures come { OnOk result
             (self.new ≡ with_caller slot (connection_begun (E.left ends) (E.taken ends)) self.old) }

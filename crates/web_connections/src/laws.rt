@@ -2,7 +2,7 @@
 
 ghost use Rattle.std.specs.Prelude.{List, ℕ, None, replicate};
 ghost use Rattle.web_connection.specs.Run.{AtTick};
-ghost use Rattle.web_sockets.specs.Comers.{Begun};
+ghost use Rattle.web_sockets.specs.Accepting.{Begun};
 ghost use Rattle.web_connections.specs.Acts.{Between};
 ghost use Rattle.web_connections.specs.Connections.{AreAmong, Callers, DoesAll, Connections, LeadsOn, History, callers};
 ghost use Rattle.web_connections.specs.declared.turns.Next.{Next};

@@ -5,11 +5,11 @@ use Rattle.base_devices.specs.declared.device.Tick.{Tick}
 use Rattle.web_http.specs.Messages.{Message}
 use Rattle.base_devices.specs.Told.{Adds}
 use Rattle.base_devices.proofs.ToldLemmas.{Adds-append, Adds-nil}
-use Rattle.web_sockets.specs.Comers.{Begun}
+use Rattle.web_sockets.specs.Accepting.{Begun}
 use Rattle.web_connections.specs.declared.turns.Next.{Next}
 use Rattle.web_connections.specs.declared.turns.Next.TheVariants as nexts
 use Rattle.web_connections.specs.Acts.{Between}
-use Rattle.web_connections.specs.Connections.{Callers, DoesAll, IsFree, LetsIn, TurnsAt, callers, state_begun, with_caller, with_slot}
+use Rattle.web_connections.specs.Connections.{Callers, DoesAll, IsFree, AcceptsOne, TurnsAt, callers, state_begun, with_caller, with_slot}
 use Rattle.web_connections.proofs.HistoryLemmas.{own_history}
 use Rattle.web_server.specs.Rounds.{AnswersCallers, EndsAtOnce, EndsEarly, Happened, Hosts, Clears, Rearranged, Rearranges, Reassigns, RoundsEnd, Served}
 use Rattle.web_connection.specs.declared.failure.Failure.TheVariants as failures
@@ -24,21 +24,21 @@ rearranged_none old new is = record { order = []; all = (refl, is) }
 pub rearranged_leaves : (old new : Callers) (slot : ℕ) → new ≡ with_slot slot None old → Rearranged [] old new
 rearranged_leaves old new slot is = record { order = nexts.Leaves slot ∷ []; all = (refl, is) }
 
-pub rearranged_comes : (came : List Begun) (old new : Callers) → LetsIn came old new → Rearranged came old new
-rearranged_comes came old new lets = record { order = nexts.Comes ∷ []; all = (new, came, [], sym (append-nil came), lets, (refl, refl)) }
+pub rearranged_comes : (came : List Begun) (old new : Callers) → AcceptsOne came old new → Rearranged came old new
+rearranged_comes came old new accepts = record { order = nexts.Comes ∷ []; all = (new, came, [], sym (append-nil came), accepts, (refl, refl)) }
 
 -- somebody takes a free place, or comes in vain
-pub lets_one : (old new : Callers) (slot : ℕ) (b : Begun) → IsFree slot old → new ≡ with_caller slot (state_begun b) old → LetsIn (b ∷ []) old new
-lets_one old new slot b free is = (refl, inr (slot, free, is))
+pub accepts_one : (old new : Callers) (slot : ℕ) (b : Begun) → IsFree slot old → new ≡ with_caller slot (state_begun b) old → AcceptsOne (b ∷ []) old new
+accepts_one old new slot b free is = (refl, inr (slot, free, is))
 
-pub lets_nobody : (old new : Callers) (b : Begun) → new ≡ old → LetsIn (b ∷ []) old new
-lets_nobody old new b is = (refl, inl is)
+pub accepts_nobody : (old new : Callers) (b : Begun) → new ≡ old → AcceptsOne (b ∷ []) old new
+accepts_nobody old new b is = (refl, inl is)
 
 rearranges_more : (came more : List Begun) (a b c : Callers) (os ps : List Next) → Rearranges came a b os → Rearranges more b c ps → Rearranges (came ++ more) a c (os ++ ps)
 rearranges_more came more a b c [] ps (none, same) y =
     subst₂ (λ (bs : List Begun) (d : Callers). Rearranges bs d c ps) (sym (ap (λ (bs : List Begun). bs ++ more) none)) same y
-rearranges_more came more a b c (nexts.Comes ∷ os) ps (amid, first, later, whole, lets, x) y =
-    (amid, first, later ++ more, ap (λ (bs : List Begun). bs ++ more) whole ∙ append_assoc first later more, lets, rearranges_more later more amid b c os ps x y)
+rearranges_more came more a b c (nexts.Comes ∷ os) ps (amid, first, later, whole, accepts, x) y =
+    (amid, first, later ++ more, ap (λ (bs : List Begun). bs ++ more) whole ∙ append_assoc first later more, accepts, rearranges_more later more amid b c os ps x y)
 rearranges_more came more a b c (nexts.Leaves slot ∷ os) ps x y = rearranges_more came more (with_slot slot None a) b c os ps x y
 rearranges_more came more a b c (nexts.Turn slot ∷ os) ps x y = absurd x
 
@@ -55,8 +55,8 @@ pub clears_more : (a b c : Callers) → Clears a b → Clears b c → Clears a c
 clears_more a b c x y = record { connections = rearranged_more [] [] a b c x.connections y.connections; came = y.came ∙ x.came }
 
 -- some left, and then one came
-pub cleared_comes : (a b c : Callers) (one : Begun) → Clears a b → LetsIn (one ∷ []) b c → Rearranged (one ∷ []) a c
-cleared_comes a b c one x lets = rearranged_more [] (one ∷ []) a b c x.connections (rearranged_comes (one ∷ []) b c lets)
+pub cleared_comes : (a b c : Callers) (one : Begun) → Clears a b → AcceptsOne (one ∷ []) b c → Rearranged (one ∷ []) a c
+cleared_comes a b c one x accepts = rearranged_more [] (one ∷ []) a b c x.connections (rearranged_comes (one ∷ []) b c accepts)
 
 -- ---- the same, with those who are let in still
 
@@ -93,7 +93,7 @@ module _ {D : Type 0} (Serves : D → Tick → Message → Answer → D → Type
 
   rearranged_does : (from : Between D) (came : List Begun) (old new : Callers) (order : List Next) → Rearranges came old new order → DoesAll Serves from from came old new order
   rearranged_does from came old new [] (none, is) = (none, refl, is)
-  rearranged_does from came old new (nexts.Comes ∷ os) (amid, first, later, whole, lets, x) = (from, amid, first, later, whole, (refl, lets), rearranged_does from later amid new os x)
+  rearranged_does from came old new (nexts.Comes ∷ os) (amid, first, later, whole, accepts, x) = (from, amid, first, later, whole, (refl, accepts), rearranged_does from later amid new os x)
   rearranged_does from came old new (nexts.Leaves slot ∷ os) x =
       (from, with_slot slot None old, [], came, refl, (refl, refl, refl), rearranged_does from came (with_slot slot None old) new os x)
   rearranged_does from came old new (nexts.Turn slot ∷ os) x = absurd x

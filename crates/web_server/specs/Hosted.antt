@@ -5,7 +5,7 @@ use Rattle.base_devices.specs.declared.device.Tick.{Tick}
 use Rattle.base_devices.specs.declared.device.Ticks as clock
 use Rattle.web_http.specs.Messages.{Message}
 use Rattle.web_connection.specs.Run.{AtTick}
-use Rattle.web_sockets.specs.Comers.{Begun}
+use Rattle.web_sockets.specs.Accepting.{Begun}
 use Rattle.web_connections.specs.declared.context.Context.{Context}
 use Rattle.web_connections.specs.Contexts.{between_at}
 use Rattle.web_server.specs.declared.server.Server.{Server}

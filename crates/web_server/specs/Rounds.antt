@@ -7,17 +7,17 @@ use Rattle.web_http.specs.Messages.{Message}
 use Rattle.web_connection.specs.declared.failure.Failure.TheVariants as failures
 use Rattle.web_cli.specs.declared.fault.RunFault.{RunFault}
 use Rattle.web_cli.specs.declared.fault.RunFault.TheVariants as faults
-use Rattle.web_sockets.specs.Comers.{Begun}
+use Rattle.web_sockets.specs.Accepting.{Begun}
 use Rattle.web_connections.specs.declared.turns.Next.{Next}
 use Rattle.web_connections.specs.declared.turns.Next.TheVariants as nexts
 pub use Rattle.web_connections.specs.Acts.{Between, between, seen_at}
-use Rattle.web_connections.specs.Connections.{AreAmong, Callers, DoesAll, Connections, LetsIn, History, with_slot}
+use Rattle.web_connections.specs.Connections.{AreAmong, Callers, DoesAll, Connections, AcceptsOne, History, with_slot}
 
 -- callers come and leave, one after another, and nobody has a turn
 abbrev pub Rearranges : List Begun → Callers → Callers → List Next → Type 0
 Rearranges came old new [] = (came ≡ []) × (new ≡ old)
 Rearranges came old new (nexts.Comes ∷ others) =
-    (amid : Callers) × (first : List Begun) × (later : List Begun) × (came ≡ first ++ later) × LetsIn first old amid × Rearranges later amid new others
+    (amid : Callers) × (first : List Begun) × (later : List Begun) × (came ≡ first ++ later) × AcceptsOne first old amid × Rearranges later amid new others
 Rearranges came old new (nexts.Leaves slot ∷ others) = Rearranges came (with_slot slot None old) new others
 Rearranges came old new (nexts.Turn slot ∷ others) = ⊥
 

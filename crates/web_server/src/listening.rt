@@ -13,7 +13,7 @@ use crate::host::Host;
 use crate::log::Log;
 use crate::noted::Attended;
 use crate::serving::serve_callers;
-use crate::street::Street;
+use crate::tcp_network::TcpNetwork;
 use base_devices::Drain;
 use base_values::Steps;
 use mio::Poll;
@@ -87,7 +87,7 @@ pub fn serve_at<R: Clock + System + Console, E: Ends, N: Network<E>, D: Desk + A
 
 /// Listens where the line says, over the system's network, says so, and answers callers. Faults: 81 and 6 too where the network can't be
 /// opened, and then nothing is said.
-pub fn serve_street<
+pub fn serve_tcp<
     R: Net<Listener = TcpListener, Stream = TcpStream> + Clock + System + Console,
     D: Desk + Attended,
     W: Drain,
@@ -113,8 +113,8 @@ pub fn serve_street<
         return Err(RunFault::Listen);
     };
     let host = Host::new(rt, alloc, log);
-    match Street::new(alloc, rt, poll, &registry) {
-        Ok(mut street) => serve_at(&host, &mut street, place, desk, writer),
+    match TcpNetwork::new(alloc, rt, poll, &registry) {
+        Ok(mut tcp_network) => serve_at(&host, &mut tcp_network, place, desk, writer),
         Err(_) => Err(RunFault::Memory),
     }
 }

@@ -19,7 +19,7 @@ const PATH: usize = 200;
 
 /// Why a connection ended.
 #[derive(Clone, Copy, Drop, PartialEq, Eq)]
-pub(crate) enum Parted {
+pub(crate) enum Closed {
     /// All that came was answered, or it broke off.
     Done,
     /// Its time was up.
@@ -30,13 +30,13 @@ pub(crate) enum Parted {
     Unreachable,
 }
 
-impl fmt::Display for Parted {
+impl fmt::Display for Closed {
     fn fmt<W: fmt::Write>(&self, f: &mut fmt::Formatter<W>) -> fmt::Result {
         let word = match self {
-            Parted::Done => "done",
-            Parted::Late => "late",
-            Parted::GaveWay => "gave_way",
-            Parted::Unreachable => "unreachable",
+            Closed::Done => "done",
+            Closed::Late => "late",
+            Closed::GaveWay => "gave_way",
+            Closed::Unreachable => "unreachable",
         };
         write!(f, "{word}")
     }
@@ -186,7 +186,7 @@ impl<'a, R: Clock + System + Console> Log<'a, R> {
     }
 
     /// The connection of a caller ended: moment, connection, and why.
-    pub(crate) fn tell_parted(&self, caller: Option<u64>, why: Parted) {
+    pub(crate) fn tell_closed(&self, caller: Option<u64>, why: Closed) {
         if self.begun.is_none() {
             return;
         }

@@ -3,15 +3,15 @@
 ghost use Rattle.std.specs.Prelude.{◌≡◌, ◌+◌, ◌<◌, ◌≤◌, [], ◌∷◌, None, true, replicate, slice_get, IfOk, IsOkUnless};
 ghost use Rattle.web_cli.specs.declared.fault.RunFault.TheVariants.{Listen};
 ghost use Rattle.web_connections.specs.Contexts.{KeepsLent};
-ghost use Rattle.web_connections.specs.Connections.{IsFree, LetsIn, at_slot, callers, slot_needs, slot_unsent, with_slot};
+ghost use Rattle.web_connections.specs.Connections.{IsFree, AcceptsOne, at_slot, callers, slot_needs, slot_unsent, with_slot};
 ghost use Rattle.web_server.specs.Hosted.{HostsBy};
 ghost use Rattle.web_server.specs.GivingWay.{GoesFirst, MakesRoom, NobodyIsThere, load_at, load_to, readiness_at};
 ghost use Rattle.web_server.specs.Timeouts.{EndsLate, is_late, timers_after, stays};
 ghost use Rattle.web_server.specs.Rounds.{Clears, Rearranged, Reassigns};
-ghost use Rattle.web_sockets.specs.Comers.{as_begun};
+ghost use Rattle.web_sockets.specs.Accepting.{as_begun};
 
 use crate::clock::System;
-use crate::log::{Log, Parted};
+use crate::log::{Log, Closed};
 use crate::noted::Attended;
 use crate::timeouts::{Load, Timer};
 use base_devices::Ticks;
@@ -20,7 +20,7 @@ use std::sync::ledger::Ledger;
 use std::time::Clock;
 use web_cli::{Console, RunFault};
 use web_connection::Desk;
-use web_sockets::{Comer, Ends, Event, Network};
+use web_sockets::{Accepted, Ends, Event, Network};
 use web_connections::{Context, Connections, Needs};
 
 /// How many callers are there at once at most.
@@ -38,9 +38,9 @@ pub(crate) struct Server<'a, R, E: Ends> {
     // How many more callers are let in.
     left: u64,
     // Whether somebody may be at the door.
-    knocks: bool,
+    may_accept: bool,
     // Whether the system had no file or no memory for one, lately.
-    wants: bool,
+    lacks_files: bool,
 }
 
 impl<'a, R: Clock + System + Console, E: Ends> Server<'a, R, E> {
@@ -56,8 +56,8 @@ impl<'a, R: Clock + System + Console, E: Ends> Server<'a, R, E> {
             connections,
             timers,
             left,
-            knocks: true,
-            wants: false,
+            may_accept: true,
+            lacks_files: false,
         })
     }
 
@@ -82,26 +82,26 @@ impl<'a, R: Clock + System + Console, E: Ends> Server<'a, R, E> {
     }
 
     /// Whether somebody may be at the door for whom there is a place, or one whose caller has to go.
-    pub(crate) fn has_comer(&self, now: u64) -> bool
+    pub(crate) fn can_accept(&self, now: u64) -> bool
         ensures { result ≡ true → 0 < self.now.left }
     {
-        self.knocks
-            && !self.wants
+        self.may_accept
+            && !self.lacks_files
             && self.left > 0
             && (self.connections.free_slot().is_some() || self.first_to_go(now).is_some())
     }
 
     // Somebody is at the door.
-    fn knock(&mut self)
+    fn note_ready(&mut self)
         ensures connections { self.new.connections ≡ self.old.connections }
         ensures left { self.new.left ≡ self.old.left }
     {
-        self.knocks = true;
+        self.may_accept = true;
     }
 
     // The caller at a place leaves.
     #[tactic(auto, using(crate::proofs::RoundLemmas::clears_leaves, crate::proofs::RoundLemmas::clears_none))]
-    fn part<N: Network<E>>(&mut self, network: &mut N, slot: usize, why: Parted, now: u64)
+    fn close<N: Network<E>>(&mut self, network: &mut N, slot: usize, why: Closed, now: u64)
         ensures leaves { self.new.connections ≡ with_slot slot None self.old.connections }
         ensures listens { N.listens network.new ≡ N.listens network.old }
         ensures timers { self.new.timers.items ≡ self.old.timers.items }
@@ -109,9 +109,9 @@ impl<'a, R: Clock + System + Console, E: Ends> Server<'a, R, E> {
         ensures left { self.new.left ≡ self.old.left }
         ensures came { N.came network.new ≡ N.came network.old }
     {
-        self.log.tell_parted(self.connections.number(slot), why);
+        self.log.tell_closed(self.connections.number(slot), why);
         if let Some(ends) = self.connections.leave(slot) {
-            network.part(ends, now);
+            network.close(ends, now);
         }
     }
 
@@ -167,7 +167,7 @@ impl<'a, R: Clock + System + Console, E: Ends> Server<'a, R, E> {
     }
 
     // A caller takes a place that is free.
-    #[tactic(auto, using(crate::proofs::RoundLemmas::lets_one, crate::proofs::RoundLemmas::lets_nobody))]
+    #[tactic(auto, using(crate::proofs::RoundLemmas::accepts_one, crate::proofs::RoundLemmas::accepts_nobody))]
     fn assign<N: Network<E>>(
         &mut self,
         alloc: Global,
@@ -178,7 +178,7 @@ impl<'a, R: Clock + System + Console, E: Ends> Server<'a, R, E> {
     )
         requires { IsFree slot self.old.connections }
         ensures listens { N.listens network.new ≡ N.listens network.old }
-        ensures lets { LetsIn
+        ensures accepts { AcceptsOne
             (as_begun (E.left ends) (E.taken ends) ∷ []) self.old.connections self.new.connections }
         ensures came { N.came network.new ≡ N.came network.old }
         ensures left { self.new.left ≡ self.old.left }
@@ -188,7 +188,7 @@ impl<'a, R: Clock + System + Console, E: Ends> Server<'a, R, E> {
         if network.assign(slot, &mut ends).is_err() {
             return;
         }
-        if self.connections.let_in(alloc, slot, ends).is_ok() {
+        if self.connections.accept(alloc, slot, ends).is_ok() {
             if let Some(timer) = self.timers.get_mut(slot) {
                 *timer = Timer::new(now);
             }
@@ -207,14 +207,14 @@ impl<'a, R: Clock + System + Console, E: Ends> Server<'a, R, E> {
     {
         if self.connections.free_slot().is_none() {
             if let Some(slot) = self.first_to_go(now) {
-                self.part(network, slot, Parted::GaveWay, now);
+                self.close(network, slot, Closed::GaveWay, now);
             }
         }
     }
 
     // A caller comes in.
-    #[tactic(auto, using(crate::proofs::RoundLemmas::cleared_comes, crate::proofs::RoundLemmas::lets_nobody))]
-    fn welcome<N: Network<E>>(&mut self, alloc: Global, network: &mut N, ends: E, now: u64)
+    #[tactic(auto, using(crate::proofs::RoundLemmas::cleared_comes, crate::proofs::RoundLemmas::accepts_nobody))]
+    fn admit<N: Network<E>>(&mut self, alloc: Global, network: &mut N, ends: E, now: u64)
         requires { 0 < self.old.left }
         ensures listens { N.listens network.new ≡ N.listens network.old }
         ensures comes { Rearranged (as_begun (E.left ends) (E.taken ends) ∷ [])
@@ -239,13 +239,13 @@ impl<'a, R: Clock + System + Console, E: Ends> Server<'a, R, E> {
         if self.is_empty(network) {
             return Err(RunFault::Listen);
         }
-        self.wants = true;
+        self.lacks_files = true;
         Ok(false)
     }
 
     // Lets one in. Whether another one may be at the door.
     #[tactic(auto, using(crate::proofs::RoundLemmas::reassigns_of, crate::proofs::RoundLemmas::reassigns_clears, crate::proofs::RoundLemmas::clears_none))]
-    fn let_one_in<N: Network<E>>(
+    fn accept_one<N: Network<E>>(
         &mut self,
         alloc: Global,
         network: &mut N,
@@ -257,26 +257,26 @@ impl<'a, R: Clock + System + Console, E: Ends> Server<'a, R, E> {
             (N.came network.old) (N.came network.new) }
         ensures ends { IsOkUnless result Listen }
     {
-        match network.next() {
-            Ok(Comer::Here(ends)) => {
-                self.welcome(alloc, network, ends, now);
+        match network.accept_next() {
+            Ok(Accepted::Here(ends)) => {
+                self.admit(alloc, network, ends, now);
                 Ok(true)
             }
-            Ok(Comer::Gone) => {
+            Ok(Accepted::Gone) => {
                 self.left -= 1;
                 Ok(true)
             }
-            Ok(Comer::Nobody) => {
-                self.knocks = false;
+            Ok(Accepted::Nobody) => {
+                self.may_accept = false;
                 Ok(false)
             }
-            Ok(Comer::Wants) => self.wait_for_files(network),
+            Ok(Accepted::Wants) => self.wait_for_files(network),
             Err(_) => Err(RunFault::Listen),
         }
     }
 
     /// Lets in who is at the door, as long as there is a place, or one whose caller has to go.
-    pub(crate) fn let_in<N: Network<E>>(
+    pub(crate) fn accept<N: Network<E>>(
         &mut self,
         alloc: Global,
         network: &mut N,
@@ -288,10 +288,10 @@ impl<'a, R: Clock + System + Console, E: Ends> Server<'a, R, E> {
         ensures ends { IsOkUnless result Listen }
     {
         for _ in 0..AT_ONCE {
-            if !self.has_comer(now) {
+            if !self.can_accept(now) {
                 break;
             }
-            match self.let_one_in(alloc, network, now) {
+            match self.accept_one(alloc, network, now) {
                 Ok(true) => {}
                 Ok(false) => break,
                 Err(fault) => return Err(fault),
@@ -315,7 +315,7 @@ impl<'a, R: Clock + System + Console, E: Ends> Server<'a, R, E> {
         let after = self.connections.needs(slot);
         let unsent = self.connections.has_unsent(slot);
         if after == Needs::Nothing {
-            self.part(network, slot, Parted::Done, now);
+            self.close(network, slot, Closed::Done, now);
         } else if let Some(timer) = self.timers.get_mut(slot) {
             *timer = timer.behind(before, after, unsent, now);
         }
@@ -343,7 +343,7 @@ impl<'a, R: Clock + System + Console, E: Ends> Server<'a, R, E> {
         match self.connections.turn(slot, context) {
             Ok(()) => self.note(network, slot, before, now),
             Err(_) => {
-                self.log.tell_parted(number, Parted::Unreachable);
+                self.log.tell_closed(number, Closed::Unreachable);
                 let _ = self.connections.leave(slot);
             }
         }
@@ -363,13 +363,13 @@ impl<'a, R: Clock + System + Console, E: Ends> Server<'a, R, E> {
             (N.came network.old) (N.came network.new) }
     {
         match event {
-            Event::Door => self.knock(),
+            Event::Listener => self.note_ready(),
             Event::Slot(slot) => {
                 self.turn(network, slot, context, now);
             }
-            Event::Parted(parted) => {
+            Event::Closed(parted) => {
                 let piece = &mut *context.piece;
-                network.see_off(parted, &mut piece.bytes);
+                network.read_away(parted, &mut piece.bytes);
             }
         }
     }
@@ -398,7 +398,7 @@ impl<'a, R: Clock + System + Console, E: Ends> Server<'a, R, E> {
         ensures came { N.came network.new ≡ N.came network.old }
     {
         if self.is_late(slot, now) {
-            self.part(network, slot, Parted::Late, now);
+            self.close(network, slot, Closed::Late, now);
         }
     }
 
@@ -410,7 +410,7 @@ impl<'a, R: Clock + System + Console, E: Ends> Server<'a, R, E> {
         ensures left { self.new.left ≡ self.old.left }
         ensures came { N.came network.new ≡ N.came network.old }
     {
-        self.wants = false;
+        self.lacks_files = false;
         network.look_round(now);
         for slot in 0..SLOTS {
             self.end_late(network, slot, now);

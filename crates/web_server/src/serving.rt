@@ -143,14 +143,14 @@ fn serve_round<
         (N.came network.old) (N.came network.new) }
     ensures ends { IsOkUnless result Listen }
 {
-    let most = if server.has_comer(watch.now) { 0 } else { ROUND_MS };
+    let most = if server.can_accept(watch.now) { 0 } else { ROUND_MS };
     if network.wait(most).is_err() {
         return Err(RunFault::Listen);
     }
     let now = watch.look();
     hear_all(network, server, context, now);
     look_if_due(watch, server, network, now);
-    server.let_in(context.alloc, network, now)
+    server.accept(context.alloc, network, now)
 }
 
 // Rounds, one after another, till all who were to be let in have come and gone.

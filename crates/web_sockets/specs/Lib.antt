@@ -1,3 +1,3 @@
-pub mod Comers
+pub mod Accepting
 pub mod Reads
 pub mod Scripts

@@ -8,7 +8,7 @@ pub mod script;
 pub mod wire;
 
 pub use ends::{Awaited, Came, Ends};
-pub use network::{Comer, Event, Network};
+pub use network::{Accepted, Event, Network};
 pub use peer::Peer;
 pub use script::Script;
 pub use wire::{Tcp, Wire};

@@ -2,7 +2,7 @@
 
 ghost use Rattle.std.specs.Prelude.{◌≡◌, Some, List, Option, OnOk, length};
 ghost use Rattle.std.specs.declared.net.socket_addr.SocketAddr.{SocketAddr};
-ghost use Rattle.web_sockets.specs.Comers.{Begun, ComesNext};
+ghost use Rattle.web_sockets.specs.Accepting.{Begun, AcceptsNext};
 
 use crate::ends::Ends;
 use base_devices::Refused;
@@ -10,7 +10,7 @@ use std::net::SocketAddr;
 
 /// What a look at the door gave.
 #[derive(Drop)]
-pub enum Comer<E> {
+pub enum Accepted<E> {
     /// A caller.
     Here(E),
     /// One that was gone before.
@@ -25,11 +25,11 @@ pub enum Comer<E> {
 #[derive(Clone, Copy, Drop, PartialEq, Eq)]
 pub enum Event {
     /// The door: somebody may be there.
-    Door,
+    Listener,
     /// The caller at a place.
     Slot(usize),
     /// A connection that ended, which the network sees off by itself.
-    Parted(usize),
+    Closed(usize),
 }
 
 /// A network at which a house listens, and its callers. Whom it lets in, and where it listens, has a name here: whoever is handed a network can't have
@@ -47,9 +47,9 @@ pub trait Network<E: Ends> {
         ensures came { came self.new ≡ came self.old };
 
     /// The next who is at the door.
-    fn next(&mut self) -> Result<Comer<E>, Refused>
+    fn accept_next(&mut self) -> Result<Accepted<E>, Refused>
         ensures listens { listens self.new ≡ listens self.old }
-        ensures came { ComesNext E.left E.taken result (came self.old) (came self.new) };
+        ensures came { AcceptsNext E.left E.taken result (came self.old) (came self.new) };
 
     /// A caller has this place from now on: what is to be heard of it comes under that.
     fn assign(&mut self, slot: usize, ends: &mut E) -> Result<(), Refused>
@@ -69,12 +69,12 @@ pub trait Network<E: Ends> {
         ensures came { came self.new ≡ came self.old };
 
     /// Sees off a caller who left. It was at that place.
-    fn part(&mut self, ends: E, now: u64)
+    fn close(&mut self, ends: E, now: u64)
         ensures listens { listens self.new ≡ listens self.old }
         ensures came { came self.new ≡ came self.old };
 
     /// What is heard of a connection that ended is read away.
-    fn see_off(&mut self, parted: usize, buffer: &mut [u8])
+    fn read_away(&mut self, parted: usize, buffer: &mut [u8])
         ensures size { length buffer.new ≡ length buffer.old }
         ensures listens { listens self.new ≡ listens self.old }
         ensures came { came self.new ≡ came self.old };

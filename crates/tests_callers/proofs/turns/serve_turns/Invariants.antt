@@ -1,5 +1,5 @@
 use Rattle.std.proofs.Common.{List, take}
-use Rattle.web_sockets.specs.Comers.{Begun}
+use Rattle.web_sockets.specs.Accepting.{Begun}
 use Rattle.web_connection.specs.Run.{AtTick}
 use Rattle.web_connections.specs.Contexts.{KeepsLent, between_at}
 use Rattle.web_connections.specs.Connections.{DoesAll}

@@ -2,7 +2,7 @@ use Rattle.std.proofs.Common.{inl, inr, refl}
 use Rattle.web_connection.specs.Run.{AtTick}
 use Rattle.web_server.specs.Clock.{IsRead}
 use Rattle.web_server.proofs.RoundLemmas.{answers_none}
-use Rattle.web_server.proofs.listening.serve_street.Goals as goal
+use Rattle.web_server.proofs.listening.serve_tcp.Goals as goal
 
 pub returns-in_default-clause-leads : goal.returns-in_default-clause-leads
 returns-in_default-clause-leads g c = answers_none (AtTick (IsRead g.R.System.shows g.R.System.gives) g.D.Desk.serves) _ _ _ _ _ _ refl refl (inl refl)

@@ -18,7 +18,7 @@ const MOST: usize = 4_194_304;
 /// A connection that ended: nothing more is written to it, and what still comes is read away. Where it remained unread the system would break the
 /// connection off, and the caller could lose the answer that was written last.
 #[derive(Drop)]
-struct Parting {
+struct Lingering {
     stream: TcpStream,
     since: u64,
     read: usize,
@@ -26,15 +26,15 @@ struct Parting {
 
 /// Connections that ended, each at a place.
 #[derive(Drop)]
-pub(crate) struct Partings {
-    slots: Vec<Option<Parting>>,
+pub(crate) struct Lingerers {
+    slots: Vec<Option<Lingering>>,
 }
 
 // Has nothing more be written to a stream, and waits for what it brings.
-fn part(mut stream: TcpStream, registry: &Registry, token: Token, now: u64) -> io::Result<Parting> {
+fn close(mut stream: TcpStream, registry: &Registry, token: Token, now: u64) -> io::Result<Lingering> {
     stream.shutdown(Shutdown::Write)?;
     registry.reregister(&mut stream, token, Interest::READABLE)?;
-    Ok(Parting {
+    Ok(Lingering {
         stream,
         since: now,
         read: 0,
@@ -43,36 +43,36 @@ fn part(mut stream: TcpStream, registry: &Registry, token: Token, now: u64) -> i
 
 // Reads once what it brings, and waits for more. Whether more may come.
 fn read_away(
-    parting: &mut Parting,
+    lingering: &mut Lingering,
     registry: &Registry,
     token: Token,
     piece: &mut [u8],
 ) -> io::Result<bool>
     ensures { length piece.new ≡ length piece.old }
 {
-    match parting.stream.read(piece) {
+    match lingering.stream.read(piece) {
         Ok(0) => return Ok(false),
-        Ok(n) => parting.read = parting.read.saturating_add(n),
+        Ok(n) => lingering.read = lingering.read.saturating_add(n),
         Err(error) => match error.kind() {
             ErrorKind::WouldBlock | ErrorKind::Interrupted => {}
             _ => return Ok(false),
         },
     }
-    if parting.read >= MOST {
+    if lingering.read >= MOST {
         return Ok(false);
     }
-    registry.reregister(&mut parting.stream, token, Interest::READABLE)?;
+    registry.reregister(&mut lingering.stream, token, Interest::READABLE)?;
     Ok(true)
 }
 
-impl Partings {
+impl Lingerers {
     /// As many places, and no connection at any.
-    pub(crate) fn new(alloc: Global, count: usize) -> Result<Partings, AllocError> {
+    pub(crate) fn new(alloc: Global, count: usize) -> Result<Lingerers, AllocError> {
         let mut slots = Vec::new(alloc);
         for _ in 0..count {
             slots.push(None)?;
         }
-        Ok(Partings { slots })
+        Ok(Lingerers { slots })
     }
 
     /// Whether no connection is there.
@@ -90,7 +90,7 @@ impl Partings {
         let slot = self.slot();
         let token = Token(behind.saturating_add(slot));
         if let Some(found) = self.slots.get_mut(slot) {
-            *found = part(stream, registry, token, now).ok();
+            *found = close(stream, registry, token, now).ok();
         }
     }
 
@@ -101,11 +101,11 @@ impl Partings {
         let Some(found) = self.slots.get_mut(slot) else {
             return;
         };
-        let Some(mut parting) = found.take() else {
+        let Some(mut lingering) = found.take() else {
             return;
         };
-        if read_away(&mut parting, registry, token, piece).unwrap_or(false) {
-            *found = Some(parting);
+        if read_away(&mut lingering, registry, token, piece).unwrap_or(false) {
+            *found = Some(lingering);
         }
     }
 
@@ -113,7 +113,7 @@ impl Partings {
     pub(crate) fn close_late(&mut self, now: u64) {
         for found in self.slots.iter_mut() {
             let is_late = match found {
-                Some(parting) => now.saturating_sub(parting.since) >= LINGER_MS,
+                Some(lingering) => now.saturating_sub(lingering.since) >= LINGER_MS,
                 None => false,
             };
             if is_late {

@@ -3,7 +3,7 @@
 ghost use Rattle.std.specs.Prelude.{◌≡◌, None, IfOk};
 
 use crate::server::SLOTS;
-use crate::parting::Partings;
+use crate::lingering::Lingerers;
 use base_devices::Refused;
 use mio::net::TcpListener;
 use mio::{Events, Interest, Poll, Registry, Token};
@@ -12,17 +12,17 @@ use std::io;
 use std::io::ErrorKind;
 use std::net::{Net, SocketAddr};
 use std::time::Duration;
-use web_sockets::{Comer, Event, Network, Peer, Tcp};
+use web_sockets::{Accepted, Event, Network, Peer, Tcp};
 
 /// Under which name events of the listener come.
-const DOOR: Token = Token(usize::MAX);
+const LISTENER: Token = Token(usize::MAX);
 
 /// How many events are heard at once at most.
 const EVENTS: usize = 256;
 
 /// The system's network. Nothing is known of those who come.
 #[derive(Drop)]
-pub struct Street<'a, R> {
+pub struct TcpNetwork<'a, R> {
     rt: &'a R,
     poll: Poll,
     registry: &'a Registry,
@@ -30,7 +30,7 @@ pub struct Street<'a, R> {
     heard: usize,
     listener: Option<TcpListener>,
     at: Option<SocketAddr>,
-    partings: Partings,
+    lingerers: Lingerers,
 }
 
 // Whether the system refused for want of files or memory: ENOMEM, ENFILE, EMFILE, ENOBUFS.
@@ -49,12 +49,12 @@ fn is_callers(error: &io::Error) -> bool {
 
 // What it is that an event comes under this name.
 fn event_of(token: Token) -> Event {
-    if token == DOOR {
-        Event::Door
+    if token == LISTENER {
+        Event::Listener
     } else if token.0 < SLOTS {
         Event::Slot(token.0)
     } else {
-        Event::Parted(token.0 - SLOTS)
+        Event::Closed(token.0 - SLOTS)
     }
 }
 
@@ -67,11 +67,11 @@ fn open<R: Net<Listener = std::net::TcpListener, Stream = std::net::TcpStream>>(
     let listener = rt.bind(addr)?;
     listener.set_nonblocking(true)?;
     let mut listener = TcpListener::from_std(listener);
-    registry.register(&mut listener, DOOR, Interest::READABLE)?;
+    registry.register(&mut listener, LISTENER, Interest::READABLE)?;
     Ok(listener)
 }
 
-impl<'a, R> Street<'a, R> {
+impl<'a, R> TcpNetwork<'a, R> {
     /// A network at which nobody listens yet.
     pub fn new(
         alloc: Global,
@@ -79,11 +79,11 @@ impl<'a, R> Street<'a, R> {
         poll: Poll,
         registry: &'a Registry,
     ) -> Result<Self, AllocError>
-        ensures { IfOk result (λ street. street.at ≡ None) }
+        ensures { IfOk result (λ tcp_network. tcp_network.at ≡ None) }
     {
         let events = Events::with_capacity(alloc, EVENTS)?;
-        let partings = Partings::new(alloc, SLOTS)?;
-        Ok(Street {
+        let lingerers = Lingerers::new(alloc, SLOTS)?;
+        Ok(TcpNetwork {
             rt,
             poll,
             registry,
@@ -91,14 +91,14 @@ impl<'a, R> Street<'a, R> {
             heard: 0,
             listener: None,
             at: None,
-            partings,
+            lingerers,
         })
     }
 }
 
 impl<'a, R: Net<Listener = std::net::TcpListener, Stream = std::net::TcpStream>> Network<
     Peer<Tcp<'a>>,
-> for Street<'a, R> {
+> for TcpNetwork<'a, R> {
     ghost listens = { λ s. s.at };
 
     ghost came = { λ _. None };
@@ -114,24 +114,24 @@ impl<'a, R: Net<Listener = std::net::TcpListener, Stream = std::net::TcpStream>>
         }
     }
 
-    fn next(&mut self) -> Result<Comer<Peer<Tcp<'a>>>, Refused> {
+    fn accept_next(&mut self) -> Result<Accepted<Peer<Tcp<'a>>>, Refused> {
         let Some(listener) = &self.listener else {
-            return Ok(Comer::Nobody);
+            return Ok(Accepted::Nobody);
         };
         match listener.accept() {
             Ok((stream, _)) => {
                 let wire = Tcp {
                     stream,
                     registry: self.registry,
-                    token: DOOR,
+                    token: LISTENER,
                 };
-                Ok(Comer::Here(Peer { wire }))
+                Ok(Accepted::Here(Peer { wire }))
             }
             Err(error) => match error.kind() {
-                ErrorKind::WouldBlock => Ok(Comer::Nobody),
-                ErrorKind::ConnectionAborted | ErrorKind::Interrupted => Ok(Comer::Gone),
-                _ if is_want(&error) => Ok(Comer::Wants),
-                _ if is_callers(&error) => Ok(Comer::Gone),
+                ErrorKind::WouldBlock => Ok(Accepted::Nobody),
+                ErrorKind::ConnectionAborted | ErrorKind::Interrupted => Ok(Accepted::Gone),
+                _ if is_want(&error) => Ok(Accepted::Wants),
+                _ if is_callers(&error) => Ok(Accepted::Gone),
                 _ => Err(Refused),
             },
         }
@@ -169,22 +169,22 @@ impl<'a, R: Net<Listener = std::net::TcpListener, Stream = std::net::TcpStream>>
         Some(event_of(event.token()))
     }
 
-    fn part(&mut self, ends: Peer<Tcp<'a>>, now: u64) {
+    fn close(&mut self, ends: Peer<Tcp<'a>>, now: u64) {
         let Peer { wire } = ends;
         let Tcp { stream, .. } = wire;
-        self.partings.add(stream, self.registry, SLOTS, now);
+        self.lingerers.add(stream, self.registry, SLOTS, now);
     }
 
-    fn see_off(&mut self, parted: usize, buffer: &mut [u8]) {
+    fn read_away(&mut self, parted: usize, buffer: &mut [u8]) {
         let token = Token(SLOTS.saturating_add(parted));
-        self.partings.hear(parted, self.registry, token, buffer);
+        self.lingerers.hear(parted, self.registry, token, buffer);
     }
 
     fn look_round(&mut self, now: u64) {
-        self.partings.close_late(now);
+        self.lingerers.close_late(now);
     }
 
     fn is_quiet(&self) -> bool {
-        self.partings.is_empty()
+        self.lingerers.is_empty()
     }
 }
