@@ -10,7 +10,7 @@ use base_values::Steps;
 use std::alloc::Global;
 use std::marker::Brand;
 use std::sync::ledger::{Blank, Ledger};
-use web_connection::{Desk, Piece};
+use web_connection::{Desk, ReadBuffer};
 use web_connections::{Context, Next};
 
 // All that happens, one after another.
@@ -37,14 +37,14 @@ impl Party<'_> {
         requires calls { IsBlankOf L.Ledger blanks.0 }
         requires failures { IsBlankOf M.Ledger blanks.1 }
     {
-        let mut page = Device {
+        let mut out = Device {
             inner: Vec::new(alloc),
             calls: Steps::<L>::new(blanks.0),
             failures: Steps::<M>::new(blanks.1),
         };
-        let mut piece = Piece::new(alloc)?;
+        let mut input = ReadBuffer::new(alloc)?;
         let mut floor = Floor::new(alloc, self.slots, self.guests.as_slice())?;
-        let mut context = Context::new(alloc, &mut piece, &mut page, ticks, desk);
+        let mut context = Context::new(alloc, &mut input, &mut out, ticks, desk);
         go_on(&mut floor, order, &mut context);
         Ok(floor.close())
     }

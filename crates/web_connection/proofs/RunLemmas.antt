@@ -13,7 +13,7 @@ use Rattle.web_http.specs.Framed.{TakesFirst}
 use Rattle.web_http.proofs.FirstLemmas.{no_head}
 use Rattle.web_connection.specs.declared.failure.Failure.{Failure}
 use Rattle.web_connection.specs.declared.failure.Failure.TheVariants as failures
-use Rattle.web_connection.specs.Run.{Item, Runs, Chain, AreAlways, AreAll, Cursor, cursor, Progress, Finished, Stopped, BreaksOff, Broken, Streams, Devices, InPieces, RunLeads, LosesPiece, TakesIn, CountedIn}
+use Rattle.web_connection.specs.Run.{Item, Runs, Chain, AreAlways, AreAll, Cursor, cursor, Progress, Finished, Stopped, BreaksOff, Broken, Streams, Devices, InPieces, RunLeads, LosesRead, TakesIn, CountedIn}
 
 -- ---- chains
 
@@ -152,13 +152,13 @@ module _ {D : Type 0} (Serves : D → Tick → Message → Answer → D → Type
   broken_more e p q r x y = record { mid = y.mid; before = progress_more p q y.mid x y.before; last = y.last }
 
   -- a piece that comes after the bytes
-  pub progress_feed : (b l : List ℕ) (piece : List ℕ) (t t' : Option (List Tick)) (d d' : D) (w w' : Option (List ℕ))
-      → Progress Serves (cursor b t d w) (cursor l t' d' w') → Progress Serves (cursor (b ++ piece) t d w) (cursor (l ++ piece) t' d' w')
-  progress_feed b l piece t t' d d' w w' x = record {
+  pub progress_feed : (b l : List ℕ) (input : List ℕ) (t t' : Option (List Tick)) (d d' : D) (w w' : Option (List ℕ))
+      → Progress Serves (cursor b t d w) (cursor l t' d' w') → Progress Serves (cursor (b ++ input) t d w) (cursor (l ++ input) t' d' w')
+  progress_feed b l input t t' d d' w w' x = record {
     messages = x.messages;
     ticks = x.ticks;
     written = x.written;
-    chain = Chain-feed b l piece x.messages x.chain;
+    chain = Chain-feed b l input x.messages x.chain;
     told = x.told;
     taken = x.taken;
     runs = x.runs;
@@ -240,7 +240,7 @@ module _ {D : Type 0} (Serves : D → Tick → Message → Answer → D → Type
     };
   }
 
-  pub memory_broken : (p : Cursor D) (l l' : List ℕ) (t : Option (List Tick)) (d : D) (w : Option (List ℕ)) → Progress Serves p (cursor l t d w) → LosesPiece l → Broken Serves failures.Memory p (cursor l' t d w)
+  pub memory_broken : (p : Cursor D) (l l' : List ℕ) (t : Option (List Tick)) (d : D) (w : Option (List ℕ)) → Progress Serves p (cursor l t d w) → LosesRead l → Broken Serves failures.Memory p (cursor l' t d w)
   memory_broken p l l' t d w x loses = record { mid = cursor l t d w; before = x; last = (stopped l l' t t d w (Adds-nil t), loses) }
 
   pub limit_broken : (p : Cursor D) (l l' : List ℕ) (t : Option (List Tick)) (d : D) (w : Option (List ℕ)) → Progress Serves p (cursor l t d w) → HasNone l → Broken Serves failures.Limit p (cursor l' t d w)
@@ -256,15 +256,15 @@ module _ {D : Type 0} (Serves : D → Tick → Message → Answer → D → Type
     pieces = record { most = omega (arith, pieces.most, calls); some = omega (arith, pieces.some, calls) };
     streams = record { mid = cursor l new.told new.desk new.taken; before = x; last = (stopped l [] new.told new.told new.desk new.taken (Adds-nil new.told), none) };
   }
-  read_broken failures.Memory old new b l l' g turn input input' gives pieces x none calls (piece, read, (some, most), same) counted = record {
-    bytes = b ++ piece;
-    given = Gives-append old.left g new.left b piece gives read;
+  read_broken failures.Memory old new b l l' g turn input input' gives pieces x none calls (input, read, (some, most), same) counted = record {
+    bytes = b ++ input;
+    given = Gives-append old.left g new.left b input gives read;
     pieces = record {
-      most = omega (arith, length-append b piece, pieces.most, most, calls);
-      some = omega (arith, length-append b piece, pieces.some, some, calls);
+      most = omega (arith, length-append b input, pieces.most, most, calls);
+      some = omega (arith, length-append b input, pieces.some, some, calls);
     };
-    streams = memory_broken _ (l ++ piece) [] new.told new.desk new.taken
-        (progress_feed b l piece old.told new.told old.desk new.desk old.taken new.taken x) (l, piece, refl, none, most);
+    streams = memory_broken _ (l ++ input) [] new.told new.desk new.taken
+        (progress_feed b l input old.told new.told old.desk new.desk old.taken new.taken x) (l, input, refl, none, most);
   }
   read_broken failures.Output old new b l l' g turn input input' gives pieces x none calls read counted = absurd counted
   read_broken failures.Clock old new b l l' g turn input input' gives pieces x none calls read counted = absurd counted

@@ -97,12 +97,12 @@ pub record CutOff {D : Type 0} (Serves : D → Tick → Message → Answer → D
   pub runs : Runs Serves old.desk ticks (item ∷ []) (part ++ rest) new.desk
 
 -- what one call of a reader gives: some bytes, at most 65,536
-abbrev pub IsPiece : List ℕ → Type 0
-IsPiece piece = (0 < length piece) × (length piece ≤ 65536)
+abbrev pub IsReadBuffer : List ℕ → Type 0
+IsReadBuffer input = (0 < length input) × (length input ≤ 65536)
 
 -- no message is left in what was there before the last bytes came, which one call of the reader gave
-abbrev pub LosesPiece : List ℕ → Type 0
-LosesPiece bytes = (waiting : List ℕ) × (piece : List ℕ) × (bytes ≡ waiting ++ piece) × HasNone waiting × (length piece ≤ 65536)
+abbrev pub LosesRead : List ℕ → Type 0
+LosesRead bytes = (waiting : List ℕ) × (input : List ℕ) × (bytes ≡ waiting ++ input) × HasNone waiting × (length input ≤ 65536)
 
 -- nothing more was told or written, and the desk is as it was
 pub record Stopped {D : Type 0} (old new : Cursor D) : Type 0 where
@@ -119,7 +119,7 @@ BreaksOff Serves failures.Output old new = CutOff Serves old new
 BreaksOff Serves failures.Clock old new = Stopped old new × ((m : Message) × IsNext old.left (Ok m))
 BreaksOff Serves failures.Input old new = Stopped old new × HasNone old.left
 BreaksOff Serves failures.Limit old new = Stopped old new × HasNone old.left
-BreaksOff Serves failures.Memory old new = Stopped old new × LosesPiece old.left
+BreaksOff Serves failures.Memory old new = Stopped old new × LosesRead old.left
 
 -- messages at the front were answered whole, and there the run breaks off
 pub record Broken {D : Type 0} (Serves : D → Tick → Message → Answer → D → Type 0) (e : Failure) (old new : Cursor D) : Type 0 where
@@ -228,10 +228,10 @@ pub record NumberCounted (number : ℕ) (old new : Counts) : Type 0 where
 -- The bytes that one call of the reader gives stand behind those that were there; no bytes come only at the end. A call that
 -- fails gives none. Where the room can't grow, what came is lost, and what was there stays.
 abbrev pub TakesIn : Result Bool Failure → List ℕ → List ℕ → Option (List ℕ) → Option (List ℕ) → Type 0
-TakesIn (Ok true) old new given given' = (piece : List ℕ) × Gives given piece given' × IsPiece piece × (new ≡ old ++ piece)
+TakesIn (Ok true) old new given given' = (input : List ℕ) × Gives given input given' × IsReadBuffer input × (new ≡ old ++ input)
 TakesIn (Ok false) old new given given' = Gives given [] given' × (new ≡ old) × IsAtEnd given'
 TakesIn (Err failures.Input) old new given given' = Gives given [] given' × (new ≡ old)
-TakesIn (Err e) old new given given' = (piece : List ℕ) × Gives given piece given' × IsPiece piece × (new ≡ old)
+TakesIn (Err e) old new given given' = (input : List ℕ) × Gives given input given' × IsReadBuffer input × (new ≡ old)
 
 -- the reader's failure was counted
 abbrev pub CountedIn : Result Bool Failure → ℕ → ℕ → Type 0

@@ -4,11 +4,11 @@
 pub mod desk;
 pub mod failure;
 pub mod laws;
-pub mod room;
+pub mod buffers;
 pub mod run;
 pub mod step;
 
 pub use desk::Desk;
 pub use failure::Failure;
-pub use room::{Piece, Room, blank};
+pub use buffers::{ReadBuffer, Buffers, blank};
 pub use run::{run_stream, serve_desk};

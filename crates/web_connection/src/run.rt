@@ -1,12 +1,12 @@
 //! A connection, from its first byte to its end.
 
 ghost use Rattle.std.specs.Prelude.{◌≡◌, ◌+◌, []};
-ghost use Rattle.web_connection.specs.Run.{AtTick, CountedIn, IsPiece, TakesIn};
+ghost use Rattle.web_connection.specs.Run.{AtTick, CountedIn, IsReadBuffer, TakesIn};
 ghost use Rattle.web_connection.specs.Outside.{RunsFrom, RunsOver, outside};
 
 use crate::desk::Desk;
 use crate::failure::Failure;
-use crate::room::Room;
+use crate::buffers::Buffers;
 use crate::step::serve_ready;
 use base_devices::device::{Drain, Source, Ticks};
 use std::alloc::Global;
@@ -15,22 +15,22 @@ use web_http::frames::Frames;
 /// Reads once, and adds what came. Whether anything came.
 fn take_in<R: Source>(
     frames: &mut Frames,
-    piece: &mut [u8],
+    input: &mut [u8],
     reader: &mut R,
 ) -> Result<bool, Failure>
-    requires { IsPiece piece.old }
+    requires { IsReadBuffer input.old }
     ensures leads { TakesIn result frames.old.left frames.new.left
         (R.left reader.old) (R.left reader.new) }
     ensures counted { CountedIn result (R.failures reader.old) (R.failures reader.new) }
     ensures calls { R.calls reader.new ≡ R.calls reader.old + 1 }
 {
-    let Ok(n) = reader.read(piece) else {
+    let Ok(n) = reader.read(input) else {
         return Err(Failure::Input);
     };
     if n == 0 {
         return Ok(false);
     }
-    match frames.feed(&piece[..n]) {
+    match frames.feed(&input[..n]) {
         Ok(()) => Ok(true),
         Err(_) => Err(Failure::Memory),
     }
@@ -39,25 +39,25 @@ fn take_in<R: Source>(
 /// Reads to the end, and answers each message.
 fn serve_all<R: Source, T: Ticks, D: Desk, W: Drain>(
     alloc: Global,
-    room: &mut Room,
+    buffers: &mut Buffers,
     reader: &mut R,
     ticks: &mut T,
     desk: &mut D,
     writer: &mut W,
 ) -> Result<(), Failure>
-    requires { room.old.frames.left ≡ [] }
+    requires { buffers.old.frames.left ≡ [] }
     ensures { RunsOver (AtTick T.reads D.serves) desk.old desk.new
         (outside R.Source T.Ticks W.Drain reader.old ticks.old writer.old)
         (outside R.Source T.Ticks W.Drain reader.new ticks.new writer.new) result }
 {
-    let Room { frames, piece } = room;
+    let Buffers { frames, input } = buffers;
     for turn in 0..1_000_000u32 {
         match serve_ready(alloc, frames, ticks, desk, writer) {
             Ok(true) => {}
             Ok(false) => return Ok(()),
             Err(failure) => return Err(failure),
         }
-        match take_in(frames, &mut piece.bytes, reader) {
+        match take_in(frames, &mut input.bytes, reader) {
             Ok(true) => {}
             Ok(false) => return Ok(()),
             Err(failure) => return Err(failure),
@@ -76,7 +76,7 @@ fn serve_all<R: Source, T: Ticks, D: Desk, W: Drain>(
 /// failed), 85 (the clock failed). What the room held before makes no difference.
 pub fn run_stream<R: Source, T: Ticks, D: Desk, W: Drain>(
     alloc: Global,
-    room: &mut Room,
+    buffers: &mut Buffers,
     reader: &mut R,
     ticks: &mut T,
     desk: &mut D,
@@ -86,8 +86,8 @@ pub fn run_stream<R: Source, T: Ticks, D: Desk, W: Drain>(
         (outside R.Source T.Ticks W.Drain reader.old ticks.old writer.old)
         (outside R.Source T.Ticks W.Drain reader.new ticks.new writer.new) result }
 {
-    room.frames.clear();
-    serve_all(alloc, room, reader, ticks, desk, writer)
+    buffers.frames.clear();
+    serve_all(alloc, buffers, reader, ticks, desk, writer)
 }
 
 /// Answers a stream of requests at a desk that is there for it alone.
@@ -103,8 +103,8 @@ pub fn serve_desk<R: Source, T: Ticks, D: Desk + Drop, W: Drain>(
         (outside R.Source T.Ticks W.Drain reader.new ticks.new writer.new) result }
 {
     let mut desk = desk;
-    let Ok(mut room) = Room::new(alloc) else {
+    let Ok(mut buffers) = Buffers::new(alloc) else {
         return Err(Failure::Memory);
     };
-    run_stream(alloc, &mut room, reader, ticks, &mut desk, writer)
+    run_stream(alloc, &mut buffers, reader, ticks, &mut desk, writer)
 }

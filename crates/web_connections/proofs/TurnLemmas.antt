@@ -101,22 +101,22 @@ sends_moves old new sends first own connection = record {
 
 hears_moves : (phase : Phase) (old new : ConnectionState) → old.phase ≡ phases.Waits → new.phase ≡ phase → Came phase old new → HasNone old.left → new.unsent ≡ old.unsent → new.gone ≡ old.gone → Moves old new
 hears_moves phase old new was is came none unsent gone first own connection = record {
-  bytes = connection.bytes ++ piece phase came;
-  given = Gives-append first.coming old.coming new.coming connection.bytes (piece phase came) connection.given (gives phase came);
+  bytes = connection.bytes ++ input phase came;
+  given = Gives-append first.coming old.coming new.coming connection.bytes (input phase came) connection.given (gives phase came);
   text = connection.text;
-  went = subst (λ (s : Phase). Went Records new.coming s (acts_recorded (connection.bytes ++ piece phase came) [] []) (acts_recorded new.left own connection.text)) (sym is) (on phase came);
+  went = subst (λ (s : Phase). Went Records new.coming s (acts_recorded (connection.bytes ++ input phase came) [] []) (acts_recorded new.left own connection.text)) (sym is) (on phase came);
   sent = connection.sent;
   is = connection.is ∙ ap (λ (u : List ℕ). connection.sent ++ u) (sym unsent);
   out = subst (λ (g : Option (List ℕ)). Adds first.gone connection.sent g) (sym gone) connection.out;
 }
   where
-    piece : (s : Phase) → Came s old new → List ℕ
-    piece phases.Waits c = []
-    piece phases.Goes c = c.0
-    piece phases.Ends c = []
-    piece phases.Lost c = c.0
+    input : (s : Phase) → Came s old new → List ℕ
+    input phases.Waits c = []
+    input phases.Goes c = c.0
+    input phases.Ends c = []
+    input phases.Lost c = c.0
 
-    gives : (s : Phase) (c : Came s old new) → Gives old.coming (piece s c) new.coming
+    gives : (s : Phase) (c : Came s old new) → Gives old.coming (input s c) new.coming
     gives phases.Waits c = c.0
     gives phases.Goes c = c.1
     gives phases.Ends c = c.0
@@ -132,7 +132,7 @@ hears_moves phase old new was is came none unsent gone first own connection = re
     stays : new.left ≡ old.left → Progress Records (acts_recorded (connection.bytes ++ []) [] []) (acts_recorded new.left own connection.text)
     stays same = subst₂ (λ (b l : List ℕ). Progress Records (acts_recorded b [] []) (acts_recorded l own connection.text)) (sym (append-nil connection.bytes)) (sym same) before.0
 
-    on : (s : Phase) (c : Came s old new) → Went Records new.coming s (acts_recorded (connection.bytes ++ piece s c) [] []) (acts_recorded new.left own connection.text)
+    on : (s : Phase) (c : Came s old new) → Went Records new.coming s (acts_recorded (connection.bytes ++ input s c) [] []) (acts_recorded new.left own connection.text)
     on phases.Waits c = (stays c.1, subst HasNone (sym c.1) none)
     on phases.Goes c = subst (λ (l : List ℕ). Progress Records (acts_recorded (connection.bytes ++ c.0) [] []) (acts_recorded l own connection.text)) (sym c.2) (fed c.0)
     on phases.Ends c = finished_none Records new.coming _ _ (stays c.1) (subst HasNone (sym c.1) none) c.2

@@ -96,9 +96,9 @@ pub record Sends (old new : ConnectionState) : Type 0 where
 -- what a read leads to: more bytes; none yet; the end of what comes; or a piece that is lost
 abbrev pub Came : Phase → ConnectionState → ConnectionState → Type 0
 Came phases.Waits old new = Gives old.coming [] new.coming × (new.left ≡ old.left)
-Came phases.Goes old new = (piece : List ℕ) × Gives old.coming piece new.coming × (new.left ≡ old.left ++ piece)
+Came phases.Goes old new = (input : List ℕ) × Gives old.coming input new.coming × (new.left ≡ old.left ++ input)
 Came phases.Ends old new = Gives old.coming [] new.coming × (new.left ≡ old.left) × IsAtEnd new.coming
-Came phases.Lost old new = (piece : List ℕ) × Gives old.coming piece new.coming × (length piece ≤ 65536)
+Came phases.Lost old new = (input : List ℕ) × Gives old.coming input new.coming × (length input ≤ 65536)
 
 -- a conversation in whose bytes no message is whole reads some more, and sends nothing meanwhile
 pub record Hears (old new : ConnectionState) : Type 0 where

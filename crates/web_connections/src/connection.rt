@@ -1,7 +1,7 @@
 //! A conversation, turn by turn.
 
 ghost use Rattle.std.specs.Prelude.{◌≡◌, []};
-ghost use Rattle.web_connection.specs.Run.{AtTick, IsPiece};
+ghost use Rattle.web_connection.specs.Run.{AtTick, IsReadBuffer};
 ghost use Rattle.web_connections.specs.declared.phase.Phase.TheVariants as phases;
 ghost use Rattle.web_connections.specs.Contexts.{KeepsLent, between_at};
 ghost use Rattle.web_connections.specs.Connections.{has_some};
@@ -16,7 +16,7 @@ use std::mem;
 use std::sync::ledger::Ledger;
 use web_connection::failure::Step;
 use web_connection::step::step;
-use web_connection::{Desk, Piece};
+use web_connection::{Desk, ReadBuffer};
 use web_http::frames::Frames;
 use web_sockets::{Awaited, Came, Ends};
 
@@ -123,13 +123,13 @@ impl<E: Ends> Connection<E> {
     }
 
     // Reads once.
-    fn hear(&mut self, piece: &mut [u8])
-        requires piece { IsPiece piece.old }
+    fn hear(&mut self, input: &mut [u8])
+        requires input { IsReadBuffer input.old }
         requires waits { self.old.phase ≡ phases.Waits }
         ensures { Hears self.old self.new }
     {
-        match self.ends.read(piece) {
-            Ok(Came::Bytes(n)) => match self.frames.feed(&piece[..n]) {
+        match self.ends.read(input) {
+            Ok(Came::Bytes(n)) => match self.frames.feed(&input[..n]) {
                 Ok(()) => self.phase = Phase::Goes,
                 Err(_) => self.phase = Phase::Lost,
             },
@@ -146,17 +146,17 @@ impl<E: Ends> Connection<E> {
     )
         requires { self.old.phase ≡ phases.Goes }
         ensures keeps { KeepsLent context.old context.new }
-        ensures same_page { context.new.page.ghost_name ≡ context.old.page.ghost_name }
+        ensures same_page { context.new.out.ghost_name ≡ context.old.out.ghost_name }
         ensures replies { Replies (AtTick T.reads D.serves)
             (between_at T.Ticks context.old) (between_at T.Ticks context.new)
-            context.old.page.now.inner.items context.new.page.now.inner.items self.old self.new }
+            context.old.out.now.inner.items context.new.out.now.inner.items self.old self.new }
     {
         match step(
             context.alloc,
             &mut self.frames,
             context.ticks,
             context.desk,
-            context.page,
+            context.out,
         ) {
             Ok(Step::Waits) => self.phase = Phase::Waits,
             Ok(Step::Goes) => self.phase = Phase::Goes,
@@ -176,20 +176,20 @@ impl<E: Ends> Connection<E> {
             (between_at T.Ticks context.old) (between_at T.Ticks context.new)
             [] self.new.unsent self.old self.new }
     {
-        context.page.inner.clear();
+        context.out.inner.clear();
         self.take_step(context);
-        mem::swap(&mut self.answer, &mut context.page.inner);
+        mem::swap(&mut self.answer, &mut context.out.inner);
         self.at = 0;
     }
 
     // Reads once where it waits for bytes.
-    fn hear_on(&mut self, piece: &mut Piece)
+    fn hear_on(&mut self, input: &mut ReadBuffer)
         ensures moves { Moves self.old self.new }
         ensures unsent { self.new.unsent ≡ self.old.unsent }
         ensures same { self.old.phase ≡ phases.Goes → self.new ≡ self.old }
     {
         match self.phase {
-            Phase::Waits => self.hear(&mut piece.bytes),
+            Phase::Waits => self.hear(&mut input.bytes),
             _ => {}
         }
     }
@@ -226,7 +226,7 @@ impl<E: Ends> Connection<E> {
         if self.at < self.answer.len() {
             return self.send();
         }
-        self.hear_on(context.piece);
+        self.hear_on(context.input);
         self.reply_on(context);
         self.send()
     }

@@ -5,7 +5,7 @@ ghost use Rattle.std.specs.Prelude.{◌≡◌};
 use base_devices::Device;
 use std::alloc::Global;
 use std::sync::ledger::Ledger;
-use web_connection::Piece;
+use web_connection::ReadBuffer;
 
 /// What serving needs: memory, a piece to read into, a page to write an answer on, the ticks of a clock, and the desk that answers. It holds no memory
 /// of its own, so that its end gives back what it was lent.
@@ -14,9 +14,9 @@ pub struct Context<'a, L: Ledger, M: Ledger, T, D> {
     /// Memory.
     pub alloc: Global,
     /// What a read is given to.
-    pub piece: &'a mut Piece,
+    pub input: &'a mut ReadBuffer,
     /// What an answer is written on.
-    pub page: &'a mut Device<Vec<u8>, L, M>,
+    pub out: &'a mut Device<Vec<u8>, L, M>,
     /// The ticks of a clock.
     pub ticks: &'a mut T,
     /// Who answers.
@@ -27,8 +27,8 @@ impl<'a, L: Ledger, M: Ledger, T, D> Context<'a, L, M, T, D> {
     /// Of all that serving needs.
     pub fn new(
         alloc: Global,
-        piece: &'a mut Piece,
-        page: &'a mut Device<Vec<u8>, L, M>,
+        input: &'a mut ReadBuffer,
+        out: &'a mut Device<Vec<u8>, L, M>,
         ticks: &'a mut T,
         desk: &'a mut D,
     ) -> Context<'a, L, M, T, D>
@@ -36,12 +36,12 @@ impl<'a, L: Ledger, M: Ledger, T, D> Context<'a, L, M, T, D> {
         ensures same_desk { result.desk.ghost_name ≡ desk.entry.ghost_name }
         ensures ticks { result.ticks.now ≡ ticks.old }
         ensures desk { result.desk.now ≡ desk.old }
-        ensures page { result.page.now ≡ page.old }
+        ensures out { result.out.now ≡ out.old }
     {
         Context {
             alloc,
-            piece,
-            page,
+            input,
+            out,
             ticks,
             desk,
         }

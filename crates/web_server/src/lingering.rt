@@ -46,11 +46,11 @@ fn read_away(
     lingering: &mut Lingering,
     registry: &Registry,
     token: Token,
-    piece: &mut [u8],
+    input: &mut [u8],
 ) -> io::Result<bool>
-    ensures { length piece.new ≡ length piece.old }
+    ensures { length input.new ≡ length input.old }
 {
-    match lingering.stream.read(piece) {
+    match lingering.stream.read(input) {
         Ok(0) => return Ok(false),
         Ok(n) => lingering.read = lingering.read.saturating_add(n),
         Err(error) => match error.kind() {
@@ -95,8 +95,8 @@ impl Lingerers {
     }
 
     /// An event of the connection at a place.
-    pub(crate) fn hear(&mut self, slot: usize, registry: &Registry, token: Token, piece: &mut [u8])
-        ensures { length piece.new ≡ length piece.old }
+    pub(crate) fn hear(&mut self, slot: usize, registry: &Registry, token: Token, input: &mut [u8])
+        ensures { length input.new ≡ length input.old }
     {
         let Some(found) = self.slots.get_mut(slot) else {
             return;
@@ -104,7 +104,7 @@ impl Lingerers {
         let Some(mut lingering) = found.take() else {
             return;
         };
-        if read_away(&mut lingering, registry, token, piece).unwrap_or(false) {
+        if read_away(&mut lingering, registry, token, input).unwrap_or(false) {
             *found = Some(lingering);
         }
     }

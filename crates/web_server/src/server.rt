@@ -368,8 +368,8 @@ impl<'a, R: Clock + System + Console, E: Ends> Server<'a, R, E> {
                 self.turn(network, slot, context, now);
             }
             Event::Closed(parted) => {
-                let piece = &mut *context.piece;
-                network.read_away(parted, &mut piece.bytes);
+                let input = &mut *context.input;
+                network.read_away(parted, &mut input.bytes);
             }
         }
     }

@@ -20,7 +20,7 @@ use std::marker::Brand;
 use std::sync::ledger::{Blank, Ledger};
 use std::time::{Clock, Instant};
 use web_cli::{Console, RunFault};
-use web_connection::{Desk, Piece};
+use web_connection::{Desk, ReadBuffer};
 use web_sockets::{Ends, Network};
 use web_connections::Context;
 
@@ -222,15 +222,15 @@ fn serve_with<
         now: 0,
         looked: 0,
     };
-    let mut page = Device {
+    let mut out = Device {
         inner: Vec::new(host.alloc),
         calls: Steps::<L>::new(blanks.0),
         failures: Steps::<M>::new(blanks.1),
     };
-    let Ok(mut piece) = Piece::new(host.alloc) else {
+    let Ok(mut input) = ReadBuffer::new(host.alloc) else {
         return Err(RunFault::Memory);
     };
-    let mut context = Context::new(host.alloc, &mut piece, &mut page, ticks, desk);
+    let mut context = Context::new(host.alloc, &mut input, &mut out, ticks, desk);
     serve_rounds(&mut watch, network, server, &mut context)
 }
 

@@ -72,16 +72,16 @@ loop-turn-preserved g c =
     let done = inv.done in
     let e = rw c.in-Ok-true.field-0-test at c.in-Ok-true.ensures in
     let read = rw c.in-Ok-true-take_in.field-0-test at c.in-Ok-true-take_in.ensures in
-    let piece = read.leads.0 in
-    let fed = progress_feed S done.0 _ piece _ _ _ _ _ _ (progress_more S _ _ _ done.2 e.leads.0) in
+    let input = read.leads.0 in
+    let fed = progress_feed S done.0 _ input _ _ _ _ _ _ (progress_more S _ _ _ done.2 e.leads.0) in
     record {
       done = (
-        done.0 ++ piece,
+        done.0 ++ input,
         Gives-append _ _ _ _ _ done.1 read.leads.1,
-        subst (λ (l : List ℕ). Progress S (cursor (done.0 ++ piece) (g.T.Ticks.told c.args.ticks.now) c.args.desk.now (g.W.Drain.taken c.args.writer.now)) (cursor l (g.T.Ticks.told c.serve_ready.new.ticks) c.serve_ready.new.desk (g.W.Drain.taken c.serve_ready.new.writer))) (sym read.leads.3) fed,
+        subst (λ (l : List ℕ). Progress S (cursor (done.0 ++ input) (g.T.Ticks.told c.args.ticks.now) c.args.desk.now (g.W.Drain.taken c.args.writer.now)) (cursor l (g.T.Ticks.told c.serve_ready.new.ticks) c.serve_ready.new.desk (g.W.Drain.taken c.serve_ready.new.writer))) (sym read.leads.3) fed,
         record {
-          most = omega (arith, length-append done.0 piece, done.3.most, read.leads.2.1);
-          some = omega (arith, length-append done.0 piece, done.3.some, read.leads.2.0);
+          most = omega (arith, length-append done.0 input, done.3.most, read.leads.2.1);
+          some = omega (arith, length-append done.0 input, done.3.some, read.leads.2.0);
         },
       );
       clock = e.counted.0 ∙ inv.clock;

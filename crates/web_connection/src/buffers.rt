@@ -10,7 +10,7 @@ const MOST: usize = 65536;
 
 /// Room for what one call of a reader gives.
 #[derive(Drop)]
-pub struct Piece {
+pub struct ReadBuffer {
     /// Its bytes.
     pub bytes: Vec<u8>,
     ghost size: { length bytes.items ≡ 65536 },
@@ -19,9 +19,9 @@ pub struct Piece {
 /// The room of a connection: what came and is not yet taken, and what one call of the reader gives. It is made once, and
 /// serves one connection after another.
 #[derive(Drop)]
-pub struct Room {
+pub struct Buffers {
     pub(crate) frames: Frames,
-    pub(crate) piece: Piece,
+    pub(crate) input: ReadBuffer,
 }
 
 /// As many bytes of 0, as room for what a read gives.
@@ -31,23 +31,23 @@ pub fn blank(alloc: Global, size: usize) -> Result<Vec<u8>, AllocError>
     vec![in alloc; 0u8; size]
 }
 
-impl Piece {
+impl ReadBuffer {
     /// A piece of 65,536 bytes.
-    pub fn new(alloc: Global) -> Result<Piece, AllocError>
-        ensures { IfOk result (λ piece. length piece.bytes.items ≡ 65536) }
+    pub fn new(alloc: Global) -> Result<ReadBuffer, AllocError>
+        ensures { IfOk result (λ input. length input.bytes.items ≡ 65536) }
     {
         let bytes = blank(alloc, MOST)?;
-        Ok(Piece { bytes })
+        Ok(ReadBuffer { bytes })
     }
 }
 
-impl Room {
+impl Buffers {
     /// Room for the connections that come. Nothing has come yet.
-    pub fn new(alloc: Global) -> Result<Room, AllocError>
-        ensures { IfOk result (λ room. room.frames.left ≡ []) }
+    pub fn new(alloc: Global) -> Result<Buffers, AllocError>
+        ensures { IfOk result (λ buffers. buffers.frames.left ≡ []) }
     {
         let frames = Frames::new(alloc)?;
-        let piece = Piece::new(alloc)?;
-        Ok(Room { frames, piece })
+        let input = ReadBuffer::new(alloc)?;
+        Ok(Buffers { frames, input })
     }
 }
