@@ -15,7 +15,7 @@ use Rattle.model_answers.specs.ShopView.{IsSame, ShopView}
 use Rattle.model_rows.specs.Lists.{State}
 use Rattle.model_invariant.specs.Sound.{IsSound}
 use Rattle.file_tables.specs.declared.sql.SqlTables.{SqlTables}
-use Rattle.web_handler.specs.Streams.{DeskView, House, Meaning, desk_with}
+use Rattle.web_handler.specs.Streams.{HandlerView, House, Meaning, handler_with}
 use Rattle.web_cli.specs.declared.fault.RunFault.{RunFault}
 use Rattle.web_cli.specs.declared.fault.RunFault.TheVariants as faults
 use Rattle.app_files.specs.Served.{OpensAs, StaysUnopened}
@@ -53,9 +53,9 @@ module _ {T : Type 0} (words : Reply → Response) (command : Command) (tick : T
       → shop ≡ before → of_shop ≡ s → a ≡ own_arrival command tick → outcome ≡ told_of answer → given ≡ after
       → (answer ≡ Unavailable → t ≡ of_shop) → (tables.sure after → tables.sure shop) → (tables.sure after → (house : House) → tables.knows shop house → tables.knows after house)
       → Answered a answer shop of_shop after t → Stands a answer shop of_shop after t → Runs a answer shop of_shop after t → Leaves a shop of_shop after → Settles a answer shop of_shop after
-      → (last : DeskView T) × Acts words command tick tables (desk_with before organizer event s) last outcome × (given ≡ last.tables)
+      → (last : HandlerView T) × Acts words command tick tables (handler_with before organizer event s) last outcome × (given ≡ last.tables)
   was_done organizer event before shop after given s of_shop t a answer outcome tables_are state_is arrival_is told given_is office sure house answered stands runs crash settled =
-      let does : Acts words command tick tables (desk_with shop organizer event of_shop) (desk_with after organizer event t) outcome = record {
+      let does : Acts words command tick tables (handler_with shop organizer event of_shop) (handler_with after organizer event t) outcome = record {
         answer = answer;
         told = told;
         organizer = refl;
@@ -69,34 +69,34 @@ module _ {T : Type 0} (words : Reply → Response) (command : Command) (tick : T
         crash = subst (λ (x : Arrival). Leaves x shop of_shop after) arrival_is crash;
         settled = subst (λ (x : Arrival). Settles x answer shop of_shop after) arrival_is settled;
       } in (
-        desk_with after organizer event t,
-        subst (λ (d : DeskView T). Acts words command tick tables d (desk_with after organizer event t) outcome) (ap₂ (λ (x : T) (y : State). desk_with x organizer event y) tables_are state_is) does,
+        handler_with after organizer event t,
+        subst (λ (d : HandlerView T). Acts words command tick tables d (handler_with after organizer event t) outcome) (ap₂ (λ (x : T) (y : State). handler_with x organizer event y) tables_are state_is) does,
         given_is,
       )
 
 -- in the words that the shop was given
-pub spoken_as : {V T : Type 0} (say : V → Reply → Response) (a b : V) (command : Command) (tick : Tick) (tables : Meaning T) (first : DeskView T) (outcome : Result (List ℕ) RunFault) (given : T) → a ≡ b
-    → ((last : DeskView T) × Acts (say a) command tick tables first last outcome × (given ≡ last.tables)) → (last : DeskView T) × Acts (say b) command tick tables first last outcome × (given ≡ last.tables)
-spoken_as {V} {T} say a b command tick tables first outcome given is done = subst (λ (v : V). (last : DeskView T) × Acts (say v) command tick tables first last outcome × (given ≡ last.tables)) is done
+pub spoken_as : {V T : Type 0} (say : V → Reply → Response) (a b : V) (command : Command) (tick : Tick) (tables : Meaning T) (first : HandlerView T) (outcome : Result (List ℕ) RunFault) (given : T) → a ≡ b
+    → ((last : HandlerView T) × Acts (say a) command tick tables first last outcome × (given ≡ last.tables)) → (last : HandlerView T) × Acts (say b) command tick tables first last outcome × (given ≡ last.tables)
+spoken_as {V} {T} say a b command tick tables first outcome given is done = subst (λ (v : V). (last : HandlerView T) × Acts (say v) command tick tables first last outcome × (given ≡ last.tables)) is done
 
 module _ {S : Type 0} (words : Reply → Response) (command : Command) (tables : Meaning (SqlTables S)) where
   -- it was done over tables whose connection is handed back
-  pub acts_there : (tick : Tick) (first : DeskView (SqlTables S)) (given : SqlTables S) (left : Connection S) (outcome : Result (List ℕ) RunFault)
-      → ((last : DeskView (SqlTables S)) × Acts words command tick tables first last outcome × (given ≡ last.tables)) → left ≡ given.connection
-      → (last : DeskView (SqlTables S)) × Acts words command tick tables first last outcome × (left ≡ last.tables.connection)
+  pub acts_there : (tick : Tick) (first : HandlerView (SqlTables S)) (given : SqlTables S) (left : Connection S) (outcome : Result (List ℕ) RunFault)
+      → ((last : HandlerView (SqlTables S)) × Acts words command tick tables first last outcome × (given ≡ last.tables)) → left ≡ given.connection
+      → (last : HandlerView (SqlTables S)) × Acts words command tick tables first last outcome × (left ≡ last.tables.connection)
   acts_there tick first given left outcome done is = (done.0, done.1, is ∙ ap (λ t. t.connection) done.2)
 
 module _ {S : Type 0} (reads : Option Tick → Type 0) (words : Reply → Response) (command : Command) (tables : Meaning (SqlTables S)) where
   -- at a tick that was read
-  pub at_tick : (tick : Tick) (first : DeskView (SqlTables S)) (left : Connection S) (outcome : Result (List ℕ) RunFault) → reads (Some tick)
-      → ((last : DeskView (SqlTables S)) × Acts words command tick tables first last outcome × (left ≡ last.tables.connection)) → ActsFrom reads words command tables first left outcome
+  pub at_tick : (tick : Tick) (first : HandlerView (SqlTables S)) (left : Connection S) (outcome : Result (List ℕ) RunFault) → reads (Some tick)
+      → ((last : HandlerView (SqlTables S)) × Acts words command tick tables first last outcome × (left ≡ last.tables.connection)) → ActsFrom reads words command tables first left outcome
   at_tick tick first left outcome read done = record { last = done.0; act = inl (tick, read, done.1); connection = done.2 }
 
   -- none was read
-  pub no_tick : (first : DeskView (SqlTables S)) (left : Connection S) → reads None → left ≡ first.tables.connection → ActsFrom reads words command tables first left (Err (faults.Run failures.Clock))
+  pub no_tick : (first : HandlerView (SqlTables S)) (left : Connection S) → reads None → left ≡ first.tables.connection → ActsFrom reads words command tables first left (Err (faults.Run failures.Clock))
   no_tick first left unread is = record { last = first; act = inr (unread, refl, refl); connection = is }
 
 module _ {S : Type 0} (reads : Option Tick → Type 0) (tables : Meaning (SqlTables S)) where
-  pub is_worked : (g : Ghosts S) (old : Connected) (desk : DeskView (SqlTables S)) (left : Connection S) (outcome : Result (List ℕ) RunFault) → OpensAs g old desk
-      → ActsFrom reads work_words Periodic tables desk left outcome → IsOpenedAndWorked reads g tables old left outcome ⊎ StaysUnopened g old left outcome
-  is_worked g old desk left outcome opens works = inl (record { desk = desk; opens = opens; works = works })
+  pub is_worked : (g : Ghosts S) (old : Connected) (handler : HandlerView (SqlTables S)) (left : Connection S) (outcome : Result (List ℕ) RunFault) → OpensAs g old handler
+      → ActsFrom reads work_words Periodic tables handler left outcome → IsOpenedAndWorked reads g tables old left outcome ⊎ StaysUnopened g old left outcome
+  is_worked g old handler left outcome opens works = inl (record { handler = handler; opens = opens; works = works })

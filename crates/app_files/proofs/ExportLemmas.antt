@@ -10,7 +10,7 @@ use Rattle.file_scan.specs.declared.error.OpenError.TheVariants as opening
 use Rattle.file_scan.proofs.LimitLemmas.{sound_fits}
 use Rattle.file_scan.proofs.Stays.{at_same, then_stays}
 use Rattle.file_tables.specs.declared.sql.SqlTables.{SqlTables}
-use Rattle.web_handler.specs.Streams.{DeskView}
+use Rattle.web_handler.specs.Streams.{HandlerView}
 use Rattle.base_devices.specs.Told.{Adds}
 use Rattle.base_devices.proofs.ToldLemmas.{Adds-nil}
 use Rattle.web_http.specs.Written.{Page}
@@ -58,24 +58,24 @@ missing_counts stood refuses file f n (inr h) = shelf_counts f n h.1.1
 
 -- ---- of a shop that was opened, or wasn't
 
-pub opened_exported : {S : Type 0} (g : Ghosts S) (old : Connected) (first left : Connection S) (desk : DeskView (SqlTables S)) (text : List ℕ) (before after : Page) (outcome : Result (Unit {0}) RunFault)
-    → OpensAs g old desk → first ≡ desk.tables.connection → Exports (state g first) (state g left) text before after outcome → IsExported g text old left outcome
-opened_exported {S} g old first left desk text before after outcome opens same e =
+pub opened_exported : {S : Type 0} (g : Ghosts S) (old : Connected) (first left : Connection S) (handler : HandlerView (SqlTables S)) (text : List ℕ) (before after : Page) (outcome : Result (Unit {0}) RunFault)
+    → OpensAs g old handler → first ≡ handler.tables.connection → Exports (state g first) (state g left) text before after outcome → IsExported g text old left outcome
+opened_exported {S} g old first left handler text before after outcome opens same e =
     let it = subst (λ (c : Connection S). Exports (state g c) (state g left) text before after outcome) same e in
-    let here = state g desk.tables.connection in
+    let here = state g handler.tables.connection in
     let early : HasCleanDisk (state g left) → HasCleanDisk here = λ clean. omega (arith, it.crash.clean, clean) in
     inl
     (record {
-      desk = desk;
+      handler = handler;
       opens = opens;
       written = λ clean db at known.
           let opened = opens.opened (early clean) db at known in
-          it.written clean db (at_same old here (opens.same (early clean)) db at) known opened.tables opened.held desk.tables.head desk.state _ opened.stand opens.sound;
+          it.written clean db (at_same old here (opens.same (early clean)) db at) known opened.tables opened.held handler.tables.head handler.state _ opened.stand opens.sound;
       cause = λ clean db at known.
           let opened = opens.opened (early clean) db at known in
           let typed = opened.typed in
           it.cause clean db (at_same old here (opens.same (early clean)) db at) known opened.tables opened.held
-          (sound_fits desk.tables.head opened.tables desk.state _ typed.first typed.organizer typed.event typed.token opened.stand opens.sound typed.rows);
+          (sound_fits handler.tables.head opened.tables handler.state _ typed.first typed.organizer typed.event typed.token opened.stand opens.sound typed.rows);
       rests = λ clean opened. then_stays old here (state g left) (opens.same (early clean)) (it.rests clean opened);
       crash = survives_then old here (state g left) (λ _. ⊥) (λ _. ⊥) (λ _. ⊥) (λ _ db none. none) (λ _ db none. none) opens.crash it.crash;
     })

@@ -5,7 +5,7 @@ use Rattle.base_devices.specs.declared.device.Tick.{Tick}
 use Rattle.office_deliveries.specs.Histories.{Event, Running}
 use Rattle.web_http.specs.Messages.{Message}
 use Rattle.web_cli.specs.declared.fault.RunFault.{RunFault}
-use Rattle.web_handler.specs.Streams.{DeskView, House, Meaning}
+use Rattle.web_handler.specs.Streams.{HandlerView, House, Meaning}
 use Rattle.web_server.specs.Rounds.{AnswersCallers, Served}
 use Rattle.web_connections.specs.Acts.{Between}
 use Rattle.web_connections.specs.Connections.{Connections}
@@ -26,6 +26,6 @@ answers_by Serves Other most old new seen left (Ok u) served connections = recor
 answers_by Serves Other most old new seen left (Err fault) (served, ends) connections = (record { came = served.came; within = served.within; all = served.all; connections = connections; begun = served.begun; told = served.told; among = served.among }, ends)
 
 -- the same desk runs so
-pub runs_as : {T : Type 0} (tables : Meaning T) (house : House) (begun : Running) (events : List Event) (desk other : DeskView T) (r : Running) → other ≡ desk
-    → RunsSo tables house begun events desk r → RunsSo tables house begun events other r
-runs_as {T} tables house begun events desk other r same x = subst (λ (d : DeskView T). RunsSo tables house begun events d r) (sym same) x
+pub runs_as : {T : Type 0} (tables : Meaning T) (house : House) (begun : Running) (events : List Event) (handler other : HandlerView T) (r : Running) → other ≡ handler
+    → RunsSo tables house begun events handler r → RunsSo tables house begun events other r
+runs_as {T} tables house begun events handler other r same x = subst (λ (d : HandlerView T). RunsSo tables house begun events d r) (sym same) x

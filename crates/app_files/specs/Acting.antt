@@ -16,7 +16,7 @@ use Rattle.base_devices.specs.declared.device.Tick.{Tick}
 use Rattle.model_answers.specs.ShopView.{IsSame, ShopView}
 use Rattle.model_invariant.specs.Sound.{IsSound}
 use Rattle.file_tables.specs.declared.sql.SqlTables.{SqlTables}
-use Rattle.web_handler.specs.Streams.{DeskView, House, Meaning}
+use Rattle.web_handler.specs.Streams.{HandlerView, House, Meaning}
 use Rattle.web_cli.specs.declared.fault.RunFault.{RunFault}
 use Rattle.web_cli.specs.declared.fault.RunFault.TheVariants as faults
 
@@ -37,7 +37,7 @@ told_of Unavailable = Err faults.Store
 -- stands for the list of arrivals with this one behind it; where it was running it is running. Where it was answered 503 its office is as it
 -- was, whatever became of its tables. A crash leaves what one before it could have left, or the whole of it, which is sound; and once what it
 -- did is told, only that.
-pub record Acts {T : Type 0} (words : Reply → Response) (command : Command) (tick : Tick) (tables : Meaning T) (first last : DeskView T) (outcome : Result (List ℕ) RunFault) : Type 0 where
+pub record Acts {T : Type 0} (words : Reply → Response) (command : Command) (tick : Tick) (tables : Meaning T) (first last : HandlerView T) (outcome : Result (List ℕ) RunFault) : Type 0 where
   pub answer : Answer
   pub told : outcome ≡ told_of answer
   pub organizer : last.organizer ≡ first.organizer
@@ -57,7 +57,7 @@ pub record Acts {T : Type 0} (words : Reply → Response) (command : Command) (t
       → (left : ShopView) → tables.may_leave last.tables left → IsSame left (arrival_served words (own_arrival command tick) v).0)
 
 -- from this desk the command is carried out at the tick that is read of the system, or none can be read, and nothing is done
-pub record ActsFrom {S : Type 0} (reads : Option Tick → Type 0) (words : Reply → Response) (command : Command) (tables : Meaning (SqlTables S)) (first : DeskView (SqlTables S)) (left : Connection S) (outcome : Result (List ℕ) RunFault) : Type 0 where
-  pub last : DeskView (SqlTables S)
+pub record ActsFrom {S : Type 0} (reads : Option Tick → Type 0) (words : Reply → Response) (command : Command) (tables : Meaning (SqlTables S)) (first : HandlerView (SqlTables S)) (left : Connection S) (outcome : Result (List ℕ) RunFault) : Type 0 where
+  pub last : HandlerView (SqlTables S)
   pub act : ((tick : Tick) × reads (Some tick) × Acts words command tick tables first last outcome) ⊎ (reads None × (outcome ≡ Err (faults.Run failures.Clock)) × (last ≡ first))
   pub connection : left ≡ last.tables.connection

@@ -13,7 +13,7 @@ use Rattle.app_csv.specs.VoucherFile.{IsFile}
 use Rattle.app_csv.specs.declared.voucher_file.FileFault.{FileFault}
 use Rattle.base_devices.specs.declared.device.Tick.{Tick}
 use Rattle.file_tables.specs.declared.sql.SqlTables.{SqlTables}
-use Rattle.web_handler.specs.Streams.{DeskView, Meaning}
+use Rattle.web_handler.specs.Streams.{HandlerView, Meaning}
 use Rattle.web_cli.specs.declared.fault.RunFault.{RunFault}
 use Rattle.web_cli.specs.declared.fault.RunFault.TheVariants as faults
 use Rattle.app_files.specs.Acting.{ActsFrom, untold}
@@ -30,25 +30,25 @@ abbrev pub import_words : List (List ℕ) → Reply → Response
 import_words given reply = record { status = 200; allow = None; body = import_body given reply }
 
 -- the vouchers that were read are added, in one command at the tick that is read
-abbrev pub AddsAll : {S : Type 0} → (Option Tick → Type 0) → Meaning (SqlTables S) → List NewVoucher → DeskView (SqlTables S) → Connection S → Result (List ℕ) RunFault → Type 0
-AddsAll reads tables vouchers desk left outcome = ActsFrom reads (import_words (codes_of vouchers)) (commands.ImportVouchers vouchers) tables desk left outcome
+abbrev pub AddsAll : {S : Type 0} → (Option Tick → Type 0) → Meaning (SqlTables S) → List NewVoucher → HandlerView (SqlTables S) → Connection S → Result (List ℕ) RunFault → Type 0
+AddsAll reads tables vouchers handler left outcome = ActsFrom reads (import_words (codes_of vouchers)) (commands.ImportVouchers vouchers) tables handler left outcome
 
 -- nothing is added, and that is told
-abbrev pub AddsNothing : {S : Type 0} → RunFault → DeskView (SqlTables S) → Connection S → Result (List ℕ) RunFault → Type 0
-AddsNothing fault desk left outcome = (outcome ≡ Err fault) × (left ≡ desk.tables.connection)
+abbrev pub AddsNothing : {S : Type 0} → RunFault → HandlerView (SqlTables S) → Connection S → Result (List ℕ) RunFault → Type 0
+AddsNothing fault handler left outcome = (outcome ≡ Err fault) × (left ≡ handler.tables.connection)
 
 -- what the lines of a file come to: their vouchers, or a fault of the file
-abbrev pub AddsRead : {S : Type 0} → (Option Tick → Type 0) → Meaning (SqlTables S) → Result (List NewVoucher) FileFault → DeskView (SqlTables S) → Connection S → Result (List ℕ) RunFault → Type 0
-AddsRead reads tables (Ok vouchers) desk left outcome = AddsAll reads tables vouchers desk left outcome
-AddsRead reads tables (Err fault) desk left outcome = AddsNothing (fault_of_file fault) desk left outcome
+abbrev pub AddsRead : {S : Type 0} → (Option Tick → Type 0) → Meaning (SqlTables S) → Result (List NewVoucher) FileFault → HandlerView (SqlTables S) → Connection S → Result (List ℕ) RunFault → Type 0
+AddsRead reads tables (Ok vouchers) handler left outcome = AddsAll reads tables vouchers handler left outcome
+AddsRead reads tables (Err fault) handler left outcome = AddsNothing (fault_of_file fault) handler left outcome
 
 -- what a file's bytes come to: what its lines do, or there is no memory to read them; or the file couldn't be read
-abbrev pub AddsFrom : {S : Type 0} → (Option Tick → Type 0) → Meaning (SqlTables S) → Result (List ℕ) RunFault → DeskView (SqlTables S) → Connection S → Result (List ℕ) RunFault → Type 0
-AddsFrom reads tables (Ok text) desk left outcome = ((read : Result (List NewVoucher) FileFault) × IsFile text read × AddsRead reads tables read desk left outcome) ⊎ AddsNothing faults.Memory desk left outcome
-AddsFrom reads tables (Err fault) desk left outcome = AddsNothing fault desk left outcome
+abbrev pub AddsFrom : {S : Type 0} → (Option Tick → Type 0) → Meaning (SqlTables S) → Result (List ℕ) RunFault → HandlerView (SqlTables S) → Connection S → Result (List ℕ) RunFault → Type 0
+AddsFrom reads tables (Ok text) handler left outcome = ((read : Result (List NewVoucher) FileFault) × IsFile text read × AddsRead reads tables read handler left outcome) ⊎ AddsNothing faults.Memory handler left outcome
+AddsFrom reads tables (Err fault) handler left outcome = AddsNothing fault handler left outcome
 
 -- the vouchers of a file are added to the shop in the database, at the desk that it is opened as
 pub record IsOpenedAndImported {S : Type 0} (reads : Option Tick → Type 0) (g : Ghosts S) (tables : Meaning (SqlTables S)) (source : Result (List ℕ) RunFault) (old : Connected) (left : Connection S) (outcome : Result (List ℕ) RunFault) : Type 0 where
-  pub desk : DeskView (SqlTables S)
-  pub opens : OpensAs g old desk
-  pub adds : AddsFrom reads tables source desk left outcome
+  pub handler : HandlerView (SqlTables S)
+  pub opens : OpensAs g old handler
+  pub adds : AddsFrom reads tables source handler left outcome

@@ -6,7 +6,7 @@ use Rattle.sqlite.specs.State.{State as Connected}
 use Rattle.sqlite.specs.declared.connection.Connection.{Connection}
 use Rattle.model_rows.specs.Lists.{Lists}
 use Rattle.file_tables.specs.declared.sql.SqlTables.{SqlTables}
-use Rattle.web_handler.specs.Streams.{DeskView}
+use Rattle.web_handler.specs.Streams.{HandlerView}
 use Rattle.web_cli.specs.declared.fault.RunFault.{RunFault}
 use Rattle.web_cli.specs.declared.fault.RunFault.TheVariants as faults
 use Rattle.web_cli.specs.declared.values.Report.{Report}
@@ -36,7 +36,7 @@ IsReport report version lists outcome = (outcome ≡ report_on report version li
 
 -- the report is one on the shop that the database is opened as, and the connection is as opening left it
 pub record IsOpenedAndReported {S : Type 0} (g : Ghosts S) (report : Report) (old : Connected) (left : Connection S) (outcome : Result (List ℕ) RunFault) : Type 0 where
-  pub desk : DeskView (SqlTables S)
-  pub opens : OpensAs g old desk
-  pub told : IsReport report desk.tables.head.version desk.state.lists outcome
-  pub connection : left ≡ desk.tables.connection
+  pub handler : HandlerView (SqlTables S)
+  pub opens : OpensAs g old handler
+  pub told : IsReport report handler.tables.head.version handler.state.lists outcome
+  pub connection : left ≡ handler.tables.connection

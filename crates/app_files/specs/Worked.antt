@@ -11,7 +11,7 @@ use Rattle.model_commands.specs.declared.requests.Command.TheVariants as command
 use Rattle.model_commands.specs.declared.waiting.PeriodicCounts.{PeriodicCounts}
 use Rattle.base_devices.specs.declared.device.Tick.{Tick}
 use Rattle.file_tables.specs.declared.sql.SqlTables.{SqlTables}
-use Rattle.web_handler.specs.Streams.{DeskView, Meaning}
+use Rattle.web_handler.specs.Streams.{HandlerView, Meaning}
 use Rattle.web_cli.specs.declared.fault.RunFault.{RunFault}
 use Rattle.app_files.specs.Acting.{ActsFrom, untold}
 use Rattle.app_files.specs.Served.{OpensAs}
@@ -31,6 +31,6 @@ work_words reply = record { status = 200; allow = None; body = work_body reply }
 
 -- the periodic work of the shop in the database is done, at the desk that it is opened as and the tick that is read
 pub record IsOpenedAndWorked {S : Type 0} (reads : Option Tick → Type 0) (g : Ghosts S) (tables : Meaning (SqlTables S)) (old : Connected) (left : Connection S) (outcome : Result (List ℕ) RunFault) : Type 0 where
-  pub desk : DeskView (SqlTables S)
-  pub opens : OpensAs g old desk
-  pub works : ActsFrom reads work_words commands.Periodic tables desk left outcome
+  pub handler : HandlerView (SqlTables S)
+  pub opens : OpensAs g old handler
+  pub works : ActsFrom reads work_words commands.Periodic tables handler left outcome

@@ -1,12 +1,12 @@
 //! A command of the program's own is carried out at the shop in a database.
 
 ghost use Rattle.std.specs.Prelude.{◌≡◌};
-ghost use Rattle.web_handler.specs.Streams.{DeskView, desk_with};
+ghost use Rattle.web_handler.specs.Streams.{HandlerView, handler_with};
 ghost use Rattle.web_server.specs.Clock.{IsRead};
 ghost use Rattle.app_files.specs.Acting.{Acts, ActsFrom, own_arrival, told_of};
-ghost use Rattle.app_files.specs.Served.{desk_of};
+ghost use Rattle.app_files.specs.Served.{handler_of};
 ghost use Rattle.app_files.specs.Stored.{stored_meaning};
-ghost use Rattle.web_arrivals.specs.DeskView.{trait_meaning};
+ghost use Rattle.web_arrivals.specs.HandlerView.{trait_meaning};
 
 use crate::filed::{Filed, Opened, connection_of};
 use base_devices::Tick;
@@ -56,9 +56,9 @@ fn act_over<T: Tables + Drop, B: Dues + Drop, W: Wording + Drop>(
     wording: W,
     command: Command,
 ) -> (T, Result<Body, RunFault>)
-    ensures { (last : DeskView T) × Acts (W.words wording) command tick
+    ensures { (last : HandlerView T) × Acts (W.words wording) command tick
         (trait_meaning T.Tables)
-        (desk_with tables office.organizer office.event office.state) last result.1
+        (handler_with tables office.organizer office.event office.state) last result.1
         × (result.0 ≡ last.tables) }
 {
     let mut shop = Shop::over(tables, office, wording);
@@ -74,9 +74,9 @@ fn act_at<S: Alter + Drop, B: Dues + Drop, W: Wording + Drop>(
     wording: W,
     command: Command,
 ) -> Filed<S, Body>
-    ensures { (last : DeskView (SqlTables S))
+    ensures { (last : HandlerView (SqlTables S))
         × Acts (W.words wording) command tick (stored_meaning S.Store)
-        (desk_of opened) last result.outcome × (result.connection ≡ last.tables.connection) }
+        (handler_of opened) last result.outcome × (result.connection ≡ last.tables.connection) }
 {
     let Opened { tables, office } = opened;
     let (tables, outcome) = act_over(alloc, tick, tables, office, wording, command);
@@ -97,7 +97,7 @@ pub(crate) fn act_opened<R: System, S: Alter + Drop, B: Dues + Drop, W: Wording 
     command: Command,
 ) -> Filed<S, Body>
     ensures { ActsFrom (IsRead R.shows R.gives) (W.words wording) command (stored_meaning S.Store)
-        (desk_of opened) result.connection result.outcome }
+        (handler_of opened) result.connection result.outcome }
 {
     match read_tick(rt) {
         Some(tick) => act_at(alloc, tick, opened, wording, command),

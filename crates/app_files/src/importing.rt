@@ -4,7 +4,7 @@ ghost use Rattle.std.specs.Prelude.{◌⊎◌, Ok};
 ghost use Rattle.app_files.specs.Came.{CameTo, OrUnopened};
 ghost use Rattle.web_server.specs.Clock.{IsRead};
 ghost use Rattle.app_files.specs.Imported.{AddsAll, AddsFrom, AddsNothing, IsOpenedAndImported};
-ghost use Rattle.app_files.specs.Served.{desk_of};
+ghost use Rattle.app_files.specs.Served.{handler_of};
 ghost use Rattle.app_files.specs.Stored.{stored_meaning};
 ghost use Rattle.web_cli.specs.declared.fault.RunFault.TheVariants.{Memory};
 
@@ -31,8 +31,8 @@ fn add_vouchers<R: System, S: Alter + Drop, B: Dues + Drop>(
     vouchers: List<NewVoucher>,
 ) -> Filed<S, Body>
     ensures { AddsAll (IsRead R.shows R.gives) (stored_meaning S.Store) vouchers
-        (desk_of opened) result.connection result.outcome
-        ⊎ AddsNothing Memory (desk_of opened) result.connection result.outcome }
+        (handler_of opened) result.connection result.outcome
+        ⊎ AddsNothing Memory (handler_of opened) result.connection result.outcome }
 {
     match codes_of(alloc, vouchers.as_slice()) {
         Ok(codes) => act_opened(
@@ -57,7 +57,7 @@ fn add_read<R: System + Console, S: Alter + Drop, B: Dues + Drop>(
     text: &[u8],
 ) -> Filed<S, Body>
     ensures { AddsFrom (IsRead R.shows R.gives) (stored_meaning S.Store) (Ok text.now)
-        (desk_of opened) result.connection result.outcome }
+        (handler_of opened) result.connection result.outcome }
 {
     match read_vouchers(alloc, text) {
         Ok(vouchers) => {
@@ -79,7 +79,7 @@ fn import_opened<R: System + Console, S: Alter + Drop, B: Dues + Drop>(
     source: Result<Body, RunFault>,
 ) -> Filed<S, Body>
     ensures { AddsFrom (IsRead R.shows R.gives) (stored_meaning S.Store) source
-        (desk_of opened) result.connection result.outcome }
+        (handler_of opened) result.connection result.outcome }
 {
     match source {
         Ok(text) => add_read(rt, alloc, opened, text.as_slice()),

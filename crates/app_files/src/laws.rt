@@ -23,7 +23,7 @@ ghost use Rattle.app_csv.specs.VerdictLines.{verdict_lines};
 ghost use Rattle.office_deliveries.specs.Deliveries.{step};
 ghost use Rattle.office_deliveries.specs.Histories.{Crashed, Event, MayLeave, Running, after_act, event_of, running_from};
 ghost use Rattle.office_deliveries.specs.Shops.{AreKeyless};
-ghost use Rattle.web_handler.specs.Streams.{DeskView, IsOf, Serves, ServesRunning, desk_with, words_of};
+ghost use Rattle.web_handler.specs.Streams.{HandlerView, IsOf, Serves, ServesRunning, handler_with, words_of};
 ghost use Rattle.file_open.specs.Found.{IsFound};
 ghost use Rattle.file_open.specs.Opened.{IsReason};
 ghost use Rattle.app_files.specs.Acting.{Acts, own_arrival, told_of};
@@ -41,7 +41,7 @@ ghost use Rattle.web_server.specs.Rounds.{AnswersCallers, most_of};
 ghost use Rattle.file_tables.specs.declared.sql.SqlTables.{SqlTables};
 ghost use Rattle.web_connections.specs.Acts.{Between, between, seen_at};
 ghost use Rattle.web_connections.specs.Connections.{Connections, History};
-ghost use Rattle.web_arrivals.specs.DeskView.{trait_meaning};
+ghost use Rattle.web_arrivals.specs.HandlerView.{trait_meaning};
 
 use base_devices::Ticks;
 use file_open::crashes::{a_crash_damages_nothing, a_shop_runs_on_after_a_crash};
@@ -61,28 +61,28 @@ pub fn callers_go_on_after_a_crash<S: Alter, K: Ticks>(
     again: &SqlTables<S>,
 )
     ensures goes_on { (house : House) (r : Running) (came : ℕ) (all : History)
-        (first : Between (DeskView (SqlTables S))) (told : Option (List Tick))
+        (first : Between (HandlerView (SqlTables S))) (told : Option (List Tick))
         (organizer event : List ℕ) (s : State)
         → let tables = trait_meaning ⟦<SqlTables<S> as Tables>⟧
-        in let end = between told (desk_with last.now organizer event s)
-        in Connections (AtTick K.reads (Serves tables)) came first end all → IsOf tables house first.desk
-        → IsRunningAs tables house first.desk r
+        in let end = between told (handler_with last.now organizer event s)
+        in Connections (AtTick K.reads (Serves tables)) came first end all → IsOf tables house first.handler
+        → IsRunningAs tables house first.handler r
         → IsFound (state S.Store last.now.connection) (state S.Store fresh.now)
         → (name happening : List ℕ) (z : State)
-        → OpensAs S.Store (state S.Store fresh.now) (desk_with again.now name happening z)
+        → OpensAs S.Store (state S.Store fresh.now) (handler_with again.now name happening z)
         → HasCleanDisk (state S.Store again.now.connection)
         → (q : Running) × (x : ShopView)
         × Connections (AtTick K.reads (ServesRunning house)) came (seen_at first r) (seen_at end q) all
-        × MayLeave (words_of house) q x × IsOf tables house (desk_with again.now name happening z)
-        × IsRunningAs tables house (desk_with again.now name happening z)
+        × MayLeave (words_of house) q x × IsOf tables house (handler_with again.now name happening z)
+        × IsRunningAs tables house (handler_with again.now name happening z)
         (running_from (words_of house) x) }
     ensures unharmed { (house : House) (r : Running) (came : ℕ) (all : History)
-        (first : Between (DeskView (SqlTables S))) (told : Option (List Tick))
+        (first : Between (HandlerView (SqlTables S))) (told : Option (List Tick))
         (organizer event : List ℕ) (s : State)
         → let tables = trait_meaning ⟦<SqlTables<S> as Tables>⟧
         in Connections (AtTick K.reads (Serves tables)) came first
-        (between told (desk_with last.now organizer event s)) all → IsOf tables house first.desk
-        → IsRunningAs tables house first.desk r
+        (between told (handler_with last.now organizer event s)) all → IsOf tables house first.handler
+        → IsRunningAs tables house first.handler r
         → IsFound (state S.Store last.now.connection) (state S.Store fresh.now)
         → (error : OpenError) → IsReason (state S.Store fresh.now).now error → IsOfMachine error }
 {
@@ -99,7 +99,7 @@ pub fn a_history_goes_on_after_a_crash<S: Alter, K: Ticks>(
     again: &SqlTables<S>,
 )
     ensures { (house : House) (begun r : Running) (es : List Event)
-        (before after : DeskView (SqlTables S))
+        (before after : HandlerView (SqlTables S))
         → let tables = trait_meaning ⟦<SqlTables<S> as Tables>⟧
         in RunsSo tables house begun es (over last.now before) r
         → IsOpenedAgain S.Store (state S.Store last.now.connection) (state S.Store fresh.now)
@@ -115,7 +115,7 @@ pub fn a_history_goes_on_after_a_crash<S: Alter, K: Ticks>(
 /// was opened for that command.
 pub fn a_command_goes_on_with_a_history<S: Alter>()
     ensures { (house : House) (begun r : Running) (es : List Event) (words : Reply → Response)
-        (command : Command) (tick : Tick) (first last : DeskView (SqlTables S))
+        (command : Command) (tick : Tick) (first last : HandlerView (SqlTables S))
         (outcome : Result (List ℕ) RunFault)
         → let tables = trait_meaning ⟦<SqlTables<S> as Tables>⟧
         in let a = own_arrival command tick in RunsSo tables house begun es first r
@@ -140,11 +140,11 @@ pub fn an_evening_is_one_history<S: Alter, K: Ticks>(
     again: &SqlTables<S>,
 )
     ensures { (house : House) (begun r : Running) (es : List Event) (n m : ℕ) (before after : History)
-        (first end : Between (DeskView (SqlTables S))) (told : Option (List Tick))
-        (a b c d : DeskView (SqlTables S)) (words : Reply → Response) (command : Command)
+        (first end : Between (HandlerView (SqlTables S))) (told : Option (List Tick))
+        (a b c d : HandlerView (SqlTables S)) (words : Reply → Response) (command : Command)
         (tick : Tick) (outcome : Result (List ℕ) RunFault)
         → let tables = trait_meaning ⟦<SqlTables<S> as Tables>⟧
-        in RunsSo tables house begun es first.desk r
+        in RunsSo tables house begun es first.handler r
         → Connections (AtTick K.reads (Serves tables)) n first (between told (over served.now a)) before
         → IsOpenedAgain S.Store (state S.Store served.now.connection) (state S.Store closed.now)
         (over opened_for.now b)
@@ -152,13 +152,13 @@ pub fn an_evening_is_one_history<S: Alter, K: Ticks>(
         → IsOpenedAgain S.Store (state S.Store acted.now.connection) (state S.Store fresh.now)
         (over again.now d)
         → Connections (AtTick K.reads (Serves tables)) m (between None (over again.now d)) end after
-        → HasCleanDisk (state S.Store end.desk.tables.connection)
+        → HasCleanDisk (state S.Store end.handler.tables.connection)
         → (fs : List Event) × (x : ShopView) × (answer : Answer) × (gs : List Event) × (q : Running)
         × Connections (AtTick K.reads (ServesHistory house)) n (seen_at first es) (between told fs) before
         × (outcome ≡ told_of answer)
         × Connections (AtTick K.reads (ServesHistory house)) m (between None
         (((fs ++ Crashed ∷ []) ++ event_of (words_of house) (own_arrival command tick) answer x
-        ∷ []) ++ Crashed ∷ [])) (seen_at end gs) after × RunsSo tables house begun gs end.desk q }
+        ∷ []) ++ Crashed ∷ [])) (seen_at end gs) after × RunsSo tables house begun gs end.handler q }
 {
     callers_go_on_with_a_history::<SqlTables<S>, K>();
     a_history_goes_on_after_a_crash::<S, K>(served, closed, opened_for);
@@ -175,7 +175,7 @@ pub fn what_is_served_is_told_once<S: Alter, K: Ticks>(file: &Connection<S>)
         → let tables = trait_meaning ⟦<SqlTables<S> as Tables>⟧
         in (served : IsOpenedAndServed K.reads S.Store tables most
         (state S.Store file.now) left outcome) → HasCleanDisk (state S.Store left)
-        → IsOf tables house served.desk → HasList tables (words_of house) served.desk p ds
+        → IsOf tables house served.handler → HasList tables (words_of house) served.handler p ds
         → (es : List Delivery) × AnswersCallers (AtTick K.reads (ServesList house p)) (most_of most)
         (between None ds) (between None es) None None outcome × IsOf tables house served.leads.last
         × HasList tables (words_of house) served.leads.last p es }
@@ -192,13 +192,13 @@ pub fn what_is_served_goes_on<S: Alter, K: Ticks>(
     again: &SqlTables<S>,
 )
     ensures { (house : House) (begun r : Running) (es : List Event) (most : ℕ)
-        (before after : DeskView (SqlTables S)) (left : Connection S)
+        (before after : HandlerView (SqlTables S)) (left : Connection S)
         (outcome : Result (Unit {0}) RunFault)
         → let tables = trait_meaning ⟦<SqlTables<S> as Tables>⟧
         in RunsSo tables house begun es (over last.now before) r
         → IsFound (state S.Store last.now.connection) (state S.Store fresh.now)
         → (served : IsOpenedAndServed K.reads S.Store tables most (state S.Store fresh.now) left
-        outcome) → (served.desk ≡ over again.now after)
+        outcome) → (served.handler ≡ over again.now after)
         → HasCleanDisk (state S.Store again.now.connection) → HasCleanDisk (state S.Store left)
         → (fs : List Event) × (q : Running)
         × AnswersCallers (AtTick K.reads (ServesHistory house)) (most_of most)

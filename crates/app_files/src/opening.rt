@@ -3,7 +3,7 @@
 ghost use Rattle.std.specs.Prelude.{IfOk, IfErr};
 ghost use Rattle.sqlite.specs.Held.{state};
 ghost use Rattle.app_files.specs.Came.{CameTo};
-ghost use Rattle.app_files.specs.Served.{OpensAs, StaysUnopened, desk_of};
+ghost use Rattle.app_files.specs.Served.{OpensAs, StaysUnopened, handler_of};
 
 use crate::faults::fault_of_opening;
 use crate::filed::{Filed, Opened};
@@ -24,7 +24,7 @@ pub(crate) fn open_counted<O: Console, S: Alter, T: Drop>(
     connection: Connection<S>,
     rows: &mut u64,
 ) -> Result<Opened<S, Counters>, Filed<S, T>>
-    ensures opens { IfOk result (λ it. OpensAs S.Store (state S.Store connection) (desk_of it)) }
+    ensures opens { IfOk result (λ it. OpensAs S.Store (state S.Store connection) (handler_of it)) }
     ensures stays { IfErr result (CameTo S.Store (StaysUnopened S.Store) connection) }
 {
     let mut shown = Shown::opening(rt);
@@ -45,7 +45,7 @@ pub(crate) fn open_shop<O: Console, S: Alter, T: Drop>(
     alloc: Global,
     connection: Connection<S>,
 ) -> Result<Opened<S, Counters>, Filed<S, T>>
-    ensures opens { IfOk result (λ it. OpensAs S.Store (state S.Store connection) (desk_of it)) }
+    ensures opens { IfOk result (λ it. OpensAs S.Store (state S.Store connection) (handler_of it)) }
     ensures stays { IfErr result (CameTo S.Store (StaysUnopened S.Store) connection) }
 {
     let mut rows = 0;

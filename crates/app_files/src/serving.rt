@@ -4,7 +4,7 @@ ghost use Rattle.std.specs.Prelude.{◌⊎◌};
 ghost use Rattle.web_cli.specs.Saying.{OnPage, TellsListening};
 ghost use Rattle.web_server.specs.Clock.{IsRead};
 ghost use Rattle.app_files.specs.Came.{CameTo};
-ghost use Rattle.app_files.specs.Served.{IsOpenedAndServed, IsSilent, LeadsFrom, StaysUnopened, desk_of};
+ghost use Rattle.app_files.specs.Served.{IsOpenedAndServed, IsSilent, LeadsFrom, StaysUnopened, handler_of};
 ghost use Rattle.app_files.specs.Stored.{stored_meaning};
 ghost use Rattle.web_http.specs.Written.{writer_page};
 
@@ -18,11 +18,11 @@ use std::alloc::Global;
 use std::net::{Net, TcpListener, TcpStream};
 use std::time::Clock;
 use web_cli::{Console, Place, RunFault};
-use web_handler::{HouseWords, ShopDesk};
-use web_server::{Log, Noted, System, serve_tcp};
+use web_handler::{HouseWords, ShopHandler};
+use web_server::{Log, Logged, System, serve_tcp};
 
 // Serves a desk, and hands back the connection of its tables.
-fn serve_desk<
+fn serve_handler<
     R: Net<Listener = TcpListener, Stream = TcpStream> + Clock + System + Console,
     S: Alter + Drop,
     B: Dues + Drop,
@@ -32,18 +32,18 @@ fn serve_desk<
     alloc: Global,
     log: &Log<'_, R>,
     place: &Place<'_>,
-    desk: ShopDesk<SqlTables<S>, B>,
+    handler: ShopHandler<SqlTables<S>, B>,
     writer: &mut W,
 ) -> Filed<S, ()>
     ensures said { OnPage W.Drain (TellsListening place.now.text.now)
         writer.old writer.new result.outcome }
     ensures leads { LeadsFrom (IsRead R.shows R.gives) (stored_meaning S.Store)
-        place.now.connections desk result.connection result.outcome }
+        place.now.connections handler result.connection result.outcome }
 {
-    let mut noted = Noted::new(log, desk);
-    let outcome = serve_tcp(rt, alloc, log, place, &mut noted, writer);
+    let mut logged = Logged::new(log, handler);
+    let outcome = serve_tcp(rt, alloc, log, place, &mut logged, writer);
     Filed {
-        connection: noted.into_desk().into_tables().into_connection(),
+        connection: logged.into_handler().into_tables().into_connection(),
         outcome,
     }
 }
@@ -66,13 +66,13 @@ fn serve_opened<
         writer.old writer.new result.outcome }
     ensures leads { LeadsFrom (IsRead R.shows R.gives)
         (stored_meaning S.Store) place.now.connections
-        (desk_of opened) result.connection result.outcome }
+        (handler_of opened) result.connection result.outcome }
 {
     match HouseWords::new(alloc, opened.office.organizer(), opened.office.event()) {
         Ok(words) => {
             let Opened { tables, office } = opened;
-            let desk = ShopDesk::with_words(tables, office, words);
-            serve_desk(rt, alloc, log, place, desk, writer)
+            let handler = ShopHandler::with_words(tables, office, words);
+            serve_handler(rt, alloc, log, place, handler, writer)
         }
         Err(_) => Filed {
             connection: connection_of(opened),

@@ -13,20 +13,20 @@ use Rattle.web_connection.specs.declared.failure.Failure.{Failure}
 use Rattle.web_connection.specs.declared.failure.Failure.TheVariants as failures
 use Rattle.web_connection.specs.Run.{RunLeads}
 use Rattle.web_connection.proofs.RunLemmas.{unopened}
-use Rattle.web_handler.specs.Streams.{DeskView, Meaning, desk_with, words_of, ServesAndKeeps, ServesList}
+use Rattle.web_handler.specs.Streams.{HandlerView, Meaning, handler_with, words_of, ServesAndKeeps, ServesList}
 use Rattle.web_handler.proofs.Streams.{nothing-too-much, told-once}
 use Rattle.file_tables.specs.declared.sql.SqlTables.{SqlTables}
 use Rattle.app_run.specs.Opened.{IsFreshShop}
 use Rattle.app_run.proofs.Sure.{memory_sure}
-use Rattle.web_handler.specs.Fed.{FeedsDesk, Ports, devices}
+use Rattle.web_handler.specs.Fed.{FeedsHandler, Ports, devices}
 use Rattle.app_run.specs.Feed.{Feeds}
 use Rattle.web_cli.specs.FeedTicks.{feed_ticks}
 use Rattle.app_run.specs.Fresh.{IsFresh, feed_house}
 use Rattle.app_run.specs.House.{LeadsList, LeadsShop, fresh_opening, fresh_shop}
 use Rattle.app_run.specs.Stored.{in_memory, in_store}
 
-module _ {T : Type 0} (tables : Meaning T) (first : DeskView T) (from step : ℕ) (old new : Ports) (result : Result (Unit {0}) Failure) (fresh : IsFresh tables first)
-    (fed : FeedsDesk tables first from step old new result) (sure : tables.sure fed.house.tables) where
+module _ {T : Type 0} (tables : Meaning T) (first : HandlerView T) (from step : ℕ) (old new : Ports) (result : Result (Unit {0}) Failure) (fresh : IsFresh tables first)
+    (fed : FeedsHandler tables first from step old new result) (sure : tables.sure fed.house.tables) where
   fresh_views : Views tables.holds first.tables first.state fresh_shop
   fresh_views = record { state_is = fresh.state; held = fresh.held; one = tt }
 
@@ -48,8 +48,8 @@ module _ {T : Type 0} (tables : Meaning T) (first : DeskView T) (from step : ℕ
 -- ---- `feed` itself, over SQLite's memory
 
 -- the desk of a shop that was just opened
-pub desk_is_fresh : {S : Type 0} (g : Ghosts S) (tables : SqlTables S) (organizer event : List ℕ) (office : State) → IsFreshShop g tables organizer event office → IsFresh (in_store g) (desk_with tables organizer event office)
-desk_is_fresh g tables organizer event office fresh = record {
+pub handler_is_fresh : {S : Type 0} (g : Ghosts S) (tables : SqlTables S) (organizer event : List ℕ) (office : State) → IsFreshShop g tables organizer event office → IsFresh (in_store g) (handler_with tables organizer event office)
+handler_is_fresh g tables organizer event office fresh = record {
   of = record { organizer = fresh.organizer_is; event = fresh.event_is; known = fresh.knows };
   state = fresh.empty_is;
   held = fresh.holds;

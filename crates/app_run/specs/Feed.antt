@@ -4,9 +4,9 @@ use Rattle.web_connection.specs.declared.failure.Failure.{Failure}
 use Rattle.web_connection.specs.declared.failure.Failure.TheVariants as failures
 use Rattle.base_devices.specs.declared.device.Source as source
 use Rattle.base_devices.specs.declared.device.Drain as drain
-use Rattle.web_handler.specs.Fed.{FeedsDesk, Ports, ports_at}
+use Rattle.web_handler.specs.Fed.{FeedsHandler, Ports, ports_at}
 use Rattle.app_run.specs.Fresh.{IsFresh}
-use Rattle.app_run.specs.Stored.{MemoryDesk, in_memory}
+use Rattle.app_run.specs.Stored.{MemoryHandler, in_memory}
 use Rattle.web_cli.specs.declared.argument.Argument.{Argument}
 use Rattle.web_cli.specs.declared.fault.RunFault.{RunFault}
 use Rattle.web_cli.specs.declared.fault.RunFault.TheVariants as faults
@@ -20,7 +20,7 @@ OnPorts r w Comes reader writer reader_after writer_after result = Comes (ports_
 -- is read and nothing written
 abbrev pub Feeds : ℕ → ℕ → Ports → Ports → Result (Unit {0}) Failure → Type 0
 Feeds from step old new result =
-    ((first : MemoryDesk) × IsFresh in_memory first × FeedsDesk in_memory first from step old new result)
+    ((first : MemoryHandler) × IsFresh in_memory first × FeedsHandler in_memory first from step old new result)
     ⊎ ((result ≡ Err failures.Memory) × (new ≡ old))
 
 -- a value that can't be read is found before anything is read or written, and is named

@@ -6,11 +6,11 @@ use Rattle.web_handler.specs.Deliveries.{Delivery, Opening}
 use Rattle.web_handler.specs.Fed.{Ports, devices}
 use Rattle.web_connection.specs.declared.failure.Failure.{Failure}
 use Rattle.web_connection.specs.declared.failure.Failure.TheVariants as failures
-use Rattle.web_connection.specs.Run.{Devices, RunLeads, with_desk}
+use Rattle.web_connection.specs.Run.{Devices, RunLeads, with_handler}
 use Rattle.web_handler.specs.Streams.{Serves, ServesAndKeeps, ServesList}
 use Rattle.web_cli.specs.FeedTicks.{feed_ticks}
 use Rattle.app_run.specs.Fresh.{IsFresh, feed_house}
-use Rattle.app_run.specs.Stored.{MemoryDesk, in_memory}
+use Rattle.app_run.specs.Stored.{MemoryHandler, in_memory}
 
 -- no rows and no answers
 abbrev pub fresh_shop : ShopView
@@ -29,12 +29,12 @@ abbrev pub LeadsList : ℕ → ℕ → ℕ → Ports → Ports → List Delivery
 LeadsList from step count old new arrivals result = RunLeads (ServesList feed_house fresh_opening) (devices old [] []) (devices new (feed_ticks from step count) arrivals) result
 
 -- of a run that makes its desk itself, none is seen before or after
-abbrev pub no_desk : Unit {0}
-no_desk = tt
+abbrev pub no_handler : Unit {0}
+no_handler = tt
 
 -- What a run of the devices leads to from a fresh shop in SQLite's memory. Or there was no memory for that shop: then nothing is
 -- read, told or written.
 abbrev pub ServesFresh : {D : Type 0} → Devices D → Devices D → Result (Unit {0}) Failure → Type 0
 ServesFresh old new result =
-    ((first : MemoryDesk) × (last : MemoryDesk) × IsFresh in_memory first × RunLeads (Serves in_memory) (with_desk old first) (with_desk new last) result)
+    ((first : MemoryHandler) × (last : MemoryHandler) × IsFresh in_memory first × RunLeads (Serves in_memory) (with_handler old first) (with_handler new last) result)
     ⊎ ((result ≡ Err failures.Memory) × (new ≡ old))

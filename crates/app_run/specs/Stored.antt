@@ -9,7 +9,7 @@ use Rattle.model_rows.specs.Lists.{empty}
 use Rattle.model_answers.specs.House.{House}
 use Rattle.file_tables.specs.declared.sql.SqlTables.{SqlTables}
 use Rattle.file_tables.specs.Shops.{HoldsWhileOpen, IsOfHouse, Leaves}
-use Rattle.web_handler.specs.Streams.{DeskView, Meaning, meaning}
+use Rattle.web_handler.specs.Streams.{HandlerView, Meaning, meaning}
 use Rattle.app_run.specs.Opened.{bare_house, feed_house}
 
 -- the disk has returned what was written so far
@@ -47,5 +47,5 @@ abbrev pub in_memory : Meaning (SqlTables MemStore)
 in_memory = in_store over_memory
 
 -- a desk over tables there
-abbrev pub MemoryDesk : Type 0
-MemoryDesk = DeskView (SqlTables MemStore)
+abbrev pub MemoryHandler : Type 0
+MemoryHandler = HandlerView (SqlTables MemStore)

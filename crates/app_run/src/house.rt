@@ -2,7 +2,7 @@
 
 ghost use Rattle.std.specs.Prelude.{◌+◌, ◌≤◌};
 ghost use Rattle.web_connection.specs.Run.{CountedAll, device_counts, devices_at, most_reads};
-ghost use Rattle.app_run.specs.House.{ServesFresh, no_desk};
+ghost use Rattle.app_run.specs.House.{ServesFresh, no_handler};
 
 use crate::opening::open_memory;
 use base_devices::{Drain, Source, Ticks};
@@ -18,8 +18,8 @@ pub fn serve_house<R: Source, T: Ticks, W: Drain>(
     writer: &mut W,
 ) -> Result<(), Failure>
     ensures leads { ServesFresh
-        (devices_at R.Source T.Ticks W.Drain reader.old ticks.old no_desk writer.old)
-        (devices_at R.Source T.Ticks W.Drain reader.new ticks.new no_desk writer.new) result }
+        (devices_at R.Source T.Ticks W.Drain reader.old ticks.old no_handler writer.old)
+        (devices_at R.Source T.Ticks W.Drain reader.new ticks.new no_handler writer.new) result }
     ensures counted { CountedAll result
         (device_counts R.Source T.Ticks W.Drain reader.old ticks.old writer.old)
         (device_counts R.Source T.Ticks W.Drain reader.new ticks.new writer.new) }

@@ -5,9 +5,9 @@ ghost use Rattle.model_invariant.specs.Sound.{IsSound};
 ghost use Rattle.model_answers.specs.ShopView.{ShopView};
 ghost use Rattle.web_handler.specs.Deliveries.{Delivery, StandsFor, Views};
 ghost use Rattle.web_connection.specs.declared.failure.Failure.{Failure};
-ghost use Rattle.web_handler.specs.Streams.{DeskView, trait_meaning, words_of};
+ghost use Rattle.web_handler.specs.Streams.{HandlerView, trait_meaning, words_of};
 ghost use Rattle.app_run.specs.Fresh.{IsFresh, feed_house};
-ghost use Rattle.web_handler.specs.Fed.{FeedsDesk, Ports};
+ghost use Rattle.web_handler.specs.Fed.{FeedsHandler, Ports};
 ghost use Rattle.app_run.specs.Feed.{Feeds};
 ghost use Rattle.app_run.specs.House.{LeadsList, LeadsShop, fresh_opening};
 ghost use Rattle.sqlite_trees.specs.declared.memory.MemStore.{MemStore};
@@ -21,10 +21,10 @@ use model_answers::Tables;
 /// Whatever bytes are fed to a fresh shop, over whatever tables: each request that is executed makes a step that takes too much of
 /// no quota; a repeat, a read and what is refused before it is a command take nothing; and the shop stays sound.
 pub fn what_is_fed_takes_nothing_too_much<T: Tables>()
-    ensures { (first : DeskView T) (from step : ℕ) (old new : Ports)
+    ensures { (first : HandlerView T) (from step : ℕ) (old new : Ports)
         (result : Result (Unit {0}) Failure)
         → let tables = trait_meaning T.Tables in IsFresh tables first
-        → (fed : FeedsDesk tables first from step old new result) → T.sure fed.house.tables
+        → (fed : FeedsHandler tables first from step old new result) → T.sure fed.house.tables
         → (w : ShopView) × LeadsShop from step fed.count old new w result
         × Views T.holds fed.house.tables fed.house.state w × IsSound w.state }
 {}
@@ -32,10 +32,10 @@ pub fn what_is_fed_takes_nothing_too_much<T: Tables>()
 /// Whatever bytes are fed to a fresh shop, over whatever tables: there is a list of arrivals, those of the messages that were acted
 /// on, of which each was told what is told of the list, or 503; and the shop stands for it.
 pub fn what_is_fed_is_told_once<T: Tables>()
-    ensures { (first : DeskView T) (from step : ℕ) (old new : Ports)
+    ensures { (first : HandlerView T) (from step : ℕ) (old new : Ports)
         (result : Result (Unit {0}) Failure)
         → let tables = trait_meaning T.Tables in IsFresh tables first
-        → (fed : FeedsDesk tables first from step old new result) → T.sure fed.house.tables
+        → (fed : FeedsHandler tables first from step old new result) → T.sure fed.house.tables
         → (es : List Delivery) × LeadsList from step fed.count old new es result
         × StandsFor (words_of feed_house) T.holds
         fed.house.tables fed.house.state fresh_opening es }

@@ -5,7 +5,7 @@ use crate::turns::serve_turns;
 use base_devices::Ticks;
 use std::alloc::{AllocError, Global};
 use std::sync::ledger::Ledger;
-use web_connection::Desk;
+use web_connection::Handler;
 use web_sockets::Script;
 use web_connections::{Context, Connections, Next};
 
@@ -65,7 +65,7 @@ impl<'a> Floor<'a> {
     }
 
     /// What is next happens.
-    pub(crate) fn go<L: Ledger, M: Ledger, T: Ticks, D: Desk>(
+    pub(crate) fn go<L: Ledger, M: Ledger, T: Ticks, D: Handler>(
         &mut self,
         next: Next,
         context: &mut Context<'_, L, M, T, D>,

@@ -10,11 +10,11 @@ use base_values::Steps;
 use std::alloc::Global;
 use std::marker::Brand;
 use std::sync::ledger::{Blank, Ledger};
-use web_connection::{Desk, ReadBuffer};
+use web_connection::{Handler, ReadBuffer};
 use web_connections::{Context, Next};
 
 // All that happens, one after another.
-fn go_on<L: Ledger, M: Ledger, T: Ticks, D: Desk>(
+fn go_on<L: Ledger, M: Ledger, T: Ticks, D: Handler>(
     floor: &mut Floor<'_>,
     order: &[Next],
     context: &mut Context<'_, L, M, T, D>,
@@ -26,12 +26,12 @@ fn go_on<L: Ledger, M: Ledger, T: Ticks, D: Desk>(
 
 impl Party<'_> {
     // Serves the callers in this order, with a ledger for each count of the page.
-    fn serve_with<L: Ledger, M: Ledger, T: Ticks, D: Desk>(
+    fn serve_with<L: Ledger, M: Ledger, T: Ticks, D: Handler>(
         &self,
         alloc: Global,
         order: &[Next],
         ticks: &mut T,
-        desk: &mut D,
+        handler: &mut D,
         blanks: (Blank, Blank),
     ) -> Result<Vec<Vec<u8>>, TogetherError>
         requires calls { IsBlankOf L.Ledger blanks.0 }
@@ -44,24 +44,24 @@ impl Party<'_> {
         };
         let mut input = ReadBuffer::new(alloc)?;
         let mut floor = Floor::new(alloc, self.slots, self.guests.as_slice())?;
-        let mut context = Context::new(alloc, &mut input, &mut out, ticks, desk);
+        let mut context = Context::new(alloc, &mut input, &mut out, ticks, handler);
         go_on(&mut floor, order, &mut context);
         Ok(floor.close())
     }
 
     /// What the callers are told at a desk, each by its number, where all that happens is this, one after another.
-    pub fn serve<T: Ticks, D: Desk>(
+    pub fn serve<T: Ticks, D: Handler>(
         &self,
         alloc: Global,
         order: &[Next],
         ticks: &mut T,
-        desk: &mut D,
+        handler: &mut D,
     ) -> Result<Vec<Vec<u8>>, TogetherError> {
         self.serve_with::<Brand, Brand, T, D>(
             alloc,
             order,
             ticks,
-            desk,
+            handler,
             (Blank::new(1), Blank::new(1)),
         )
     }

@@ -9,7 +9,7 @@ ghost use Rattle.web_connections.specs.Connections.{Does, DoesAll, AcceptsOne};
 use base_devices::Ticks;
 use std::alloc::Global;
 use std::sync::ledger::Ledger;
-use web_connection::Desk;
+use web_connection::Handler;
 use web_sockets::Ends;
 use web_connections::{Context, Connections, Next};
 
@@ -28,7 +28,7 @@ fn accept_next<E: Ends>(alloc: Global, connections: &mut Connections<E>, callers
 }
 
 // What is next.
-fn do_next<E: Ends, L: Ledger, M: Ledger, T: Ticks, D: Desk>(
+fn do_next<E: Ends, L: Ledger, M: Ledger, T: Ticks, D: Handler>(
     context: &mut Context<'_, L, M, T, D>,
     connections: &mut Connections<E>,
     callers_to_come: &mut Vec<E>,
@@ -52,7 +52,7 @@ fn do_next<E: Ends, L: Ledger, M: Ledger, T: Ticks, D: Desk>(
 
 /// Callers come, have turns and leave, in whatever order, at one desk. Nobody comes where nobody is left who may, where no place is free, or
 /// where there is no memory for one more.
-pub fn serve_turns<E: Ends, L: Ledger, M: Ledger, T: Ticks, D: Desk>(
+pub fn serve_turns<E: Ends, L: Ledger, M: Ledger, T: Ticks, D: Handler>(
     context: &mut Context<'_, L, M, T, D>,
     connections: &mut Connections<E>,
     callers_to_come: &mut Vec<E>,

@@ -9,7 +9,7 @@ use Rattle.office_deliveries.specs.Shops.{Views}
 use Rattle.web_connection.specs.Run.{AreAll, Devices, Finished, Item, Runs, cursor}
 use Rattle.web_connection.proofs.LawLemmas.{all_answered}
 use Rattle.web_arrivals.specs.Cuts.{RunsWhole}
-use Rattle.web_arrivals.specs.DeskView.{DeskView, House, Meaning}
+use Rattle.web_arrivals.specs.HandlerView.{HandlerView, House, Meaning}
 use Rattle.web_arrivals.specs.Streams.{Decides}
 use Rattle.web_arrivals.proofs.StreamLemmas.{all-alike}
 
@@ -26,10 +26,10 @@ added {X} front xs old new is adds = subst (λ (o : Option (List X)). Adds o xs 
 added_same : {X : Type 0} (front xs ys : List X) (new newer : Option (List X)) → new ≡ Some (front ++ xs) → newer ≡ Some (front ++ ys) → new ≡ newer → xs ≡ ys
 added_same front xs ys new newer is are same = cancel front xs ys (cc (is, are, same))
 
-module _ {T : Type 0} (tables : Meaning T) (house : House) (v : ShopView) (bytes : List ℕ) (ticks : List Tick) (written : List ℕ) (old new : Devices (DeskView T))
+module _ {T : Type 0} (tables : Meaning T) (house : House) (v : ShopView) (bytes : List ℕ) (ticks : List Tick) (written : List ℕ) (old new : Devices (HandlerView T))
     (p : RunsWhole tables house v bytes ticks written old new) where
   -- the run itself
-  abbrev pub ended : Finished (Decides tables) (AreAll p.run.bytes new.left) (cursor p.run.bytes old.told old.desk old.taken) (cursor [] new.told new.desk new.taken)
+  abbrev pub ended : Finished (Decides tables) (AreAll p.run.bytes new.left) (cursor p.run.bytes old.told old.handler old.taken) (cursor [] new.told new.handler new.taken)
   ended = p.run.streams
 
   -- its messages are those of the bytes
@@ -43,9 +43,9 @@ module _ {T : Type 0} (tables : Meaning T) (house : House) (v : ShopView) (bytes
   all_written = added written ended.written old.taken new.taken p.wrote ended.taken
 
 pub cuts-alike : {T U : Type 0} (tables : Meaning T) (others : Meaning U) (house : House) (v : ShopView) (bytes : List ℕ) (ticks : List Tick) (written : List ℕ)
-    (old new : Devices (DeskView T)) (other newer : Devices (DeskView U))
+    (old new : Devices (HandlerView T)) (other newer : Devices (HandlerView U))
     → RunsWhole tables house v bytes ticks written old new → RunsWhole others house v bytes ticks written other newer → new.told ≡ newer.told
-    → (new.taken ≡ newer.taken) × ((w : ShopView) × Views tables.holds new.desk.tables new.desk.state w × Views others.holds newer.desk.tables newer.desk.state w)
+    → (new.taken ≡ newer.taken) × ((w : ShopView) × Views tables.holds new.handler.tables new.handler.state w × Views others.holds newer.handler.tables newer.handler.state w)
 cuts-alike tables others house v bytes ticks written old new other newer p q same =
     let f = ended tables house v bytes ticks written old new p in
     let g = ended others house v bytes ticks written other newer q in
@@ -53,9 +53,9 @@ cuts-alike tables others house v bytes ticks written old new other newer p q sam
     Messages_unique bytes g.items f.items (all_messages others house v bytes ticks written other newer q) (all_messages tables house v bytes ticks written old new p) in
     let ticked : g.ticks ≡ f.ticks =
     added_same ticks g.ticks f.ticks newer.told new.told (all_ticks others house v bytes ticks written other newer q) (all_ticks tables house v bytes ticks written old new p) (sym same) in
-    let runs : Runs (Decides others) other.desk f.ticks f.items g.written newer.desk =
-    subst (λ (is : List Item). Runs (Decides others) other.desk f.ticks is g.written newer.desk) items (subst (λ (ts : List Tick). Runs (Decides others) other.desk ts g.items g.written newer.desk) ticked g.runs) in
-    let both = all-alike tables others house v old.desk new.desk other.desk newer.desk f.ticks f.items f.written g.written f.runs runs p.sure q.sure p.of q.of p.views q.views in (
+    let runs : Runs (Decides others) other.handler f.ticks f.items g.written newer.handler =
+    subst (λ (is : List Item). Runs (Decides others) other.handler f.ticks is g.written newer.handler) items (subst (λ (ts : List Tick). Runs (Decides others) other.handler ts g.items g.written newer.handler) ticked g.runs) in
+    let both = all-alike tables others house v old.handler new.handler other.handler newer.handler f.ticks f.items f.written g.written f.runs runs p.sure q.sure p.of q.of p.views q.views in (
       all_written tables house v bytes ticks written old new p
           ∙ ap (λ (w : List ℕ). let o : Option (List ℕ) = Some (written ++ w) in o) both.0
           ∙ sym (all_written others house v bytes ticks written other newer q),

@@ -18,7 +18,7 @@ use Rattle.office_deliveries.specs.declared.arrival.Request.TheVariants.{Write, 
 use Rattle.office_deliveries.specs.Deliveries.{request_done, held_for, is_write, repeats}
 use Rattle.office_deliveries.specs.Shops.{Views, acted_by, moment_of, own, arrival_served, read_served}
 use Rattle.web_connection.specs.declared.failure.Failure.{Failure}
-use Rattle.web_connection.specs.Run.{Devices, RunLeads, with_desk}
+use Rattle.web_connection.specs.Run.{Devices, RunLeads, with_handler}
 use Rattle.web_api.specs.Call.{call}
 use Rattle.web_api.specs.Key.{key_of}
 use Rattle.web_api.specs.Statuses.{IsRefusedByGiven, status_of}
@@ -28,7 +28,7 @@ use Rattle.web_api.proofs.StatusLemmas.{call_given}
 use Rattle.web_responses.proofs.StatusLemmas.{words_given}
 use Rattle.web_responses.specs.Statuses.{is_given}
 use Rattle.web_arrivals.specs.Coming.{arrival, arrival_of, number_of}
-use Rattle.web_arrivals.specs.DeskView.{DeskView, House, IsOf, Meaning, words_of}
+use Rattle.web_arrivals.specs.HandlerView.{HandlerView, House, IsOf, Meaning, words_of}
 use Rattle.web_arrivals.specs.Given.{AreGiven, ServesGiven}
 use Rattle.web_arrivals.specs.Served.{IsServed, Serves, ServesOnce}
 use Rattle.web_arrivals.proofs.StreamLemmas.{run-seen, viewed}
@@ -127,11 +127,11 @@ module _ (words : Reply → Response) (each : (reply : Reply) → is_given (word
 -- ---- over a stream
 
 module _ {T : Type 0} (tables : Meaning T) (house : House) where
-  pub record IsGivenAt (d : DeskView T) (v : ShopView) : Type 0 where
+  pub record IsGivenAt (d : HandlerView T) (v : ShopView) : Type 0 where
     pub views : Views tables.holds d.tables d.state v
     pub kept : AreGiven v.kept
 
-  given-once : (old : DeskView T) (t : Tick) (m : Message) (answer : Answer) (new : DeskView T) (v : ShopView) → ServesOnce tables (words_of house) old (arrival house t m) answer new → IsGivenAt old v
+  given-once : (old : HandlerView T) (t : Tick) (m : Message) (answer : Answer) (new : HandlerView T) (v : ShopView) → ServesOnce tables (words_of house) old (arrival house t m) answer new → IsGivenAt old v
       → (w : ShopView) × ServesGiven house v t m answer w × IsGivenAt new w
   given-once old t m answer new v once is =
       let x = viewed tables house (words_of house) (arrival house t m) v answer (λ (w : ShopView). Views tables.holds new.tables new.state w) (once.served v is.views) in
@@ -140,9 +140,9 @@ module _ {T : Type 0} (tables : Meaning T) (house : House) where
       let given = message-given (words_of house) (words_given house.organizer house.event) (arrival house t m) v answer x.0 come is.kept x.1 in
       (x.0, (x.1, given.0), record { views = x.2; kept = given.1 })
 
-  pub all-given : (v : ShopView) (old new : Devices (DeskView T)) (result : Result (Unit {0}) Failure) → AreGiven v.kept
-      → RunLeads (Serves tables) old new result → tables.sure new.desk.tables → IsOf tables house old.desk → Views tables.holds old.desk.tables old.desk.state v
-      → (w : ShopView) × RunLeads (ServesGiven house) (with_desk old v) (with_desk new w) result × IsOf tables house new.desk × Views tables.holds new.desk.tables new.desk.state w × AreGiven w.kept
+  pub all-given : (v : ShopView) (old new : Devices (HandlerView T)) (result : Result (Unit {0}) Failure) → AreGiven v.kept
+      → RunLeads (Serves tables) old new result → tables.sure new.handler.tables → IsOf tables house old.handler → Views tables.holds old.handler.tables old.handler.state v
+      → (w : ShopView) × RunLeads (ServesGiven house) (with_handler old v) (with_handler new w) result × IsOf tables house new.handler × Views tables.holds new.handler.tables new.handler.state w × AreGiven w.kept
   all-given v old new result kept run sure is views =
       let x = run-seen tables house IsGivenAt (ServesGiven house) given-once old new result v run sure is (record { views = views; kept = kept }) in
       (x.0, x.1, x.2, x.3.views, x.3.kept)

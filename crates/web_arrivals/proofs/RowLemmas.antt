@@ -25,9 +25,9 @@ use Rattle.office_deliveries.specs.Fit.{IsFitRequest, IsFitArrival}
 use Rattle.office_deliveries.specs.Shops.{Views, moment_of, acted_by, read_served, moment_at}
 use Rattle.office_deliveries.proofs.Runs.{stores}
 use Rattle.web_connection.specs.declared.failure.Failure.{Failure}
-use Rattle.web_connection.specs.Run.{Devices, with_desk, RunLeads}
+use Rattle.web_connection.specs.Run.{Devices, with_handler, RunLeads}
 use Rattle.web_arrivals.specs.Coming.{arrival}
-use Rattle.web_arrivals.specs.DeskView.{DeskView, Meaning, House, IsOf, words_of}
+use Rattle.web_arrivals.specs.HandlerView.{HandlerView, Meaning, House, IsOf, words_of}
 use Rattle.web_arrivals.specs.Served.{IsFitComing as IsFitMessage, IsServed, ServesOnce, Serves}
 use Rattle.web_arrivals.specs.Streams.{MakesItsStep, KeepsRows, KeepsComing, Keeps, ServesShop, ServesAndKeeps}
 use Rattle.web_arrivals.proofs.StreamLemmas.{run-seen, viewed}
@@ -72,20 +72,20 @@ keeps house t m Unavailable v w sound fit serves =
     (same, subst (λ (x : ShopView). IsSound x.state) (sym same) sound)
 
 module _ {T : Type 0} (tables : Meaning T) (house : House) where
-  pub record IsSoundAt (d : DeskView T) (v : ShopView) : Type 0 where
+  pub record IsSoundAt (d : HandlerView T) (v : ShopView) : Type 0 where
     pub views : Views tables.holds d.tables d.state v
     pub sound : IsSound v.state
 
-  pub keeps-once : (old : DeskView T) (t : Tick) (m : Message) (answer : Answer) (new : DeskView T) (v : ShopView) → ServesOnce tables (words_of house) old (arrival house t m) answer new → IsSoundAt old v
+  pub keeps-once : (old : HandlerView T) (t : Tick) (m : Message) (answer : Answer) (new : HandlerView T) (v : ShopView) → ServesOnce tables (words_of house) old (arrival house t m) answer new → IsSoundAt old v
       → (w : ShopView) × ServesAndKeeps house v t m answer w × IsSoundAt new w
   keeps-once old t m answer new v once is =
       let x = viewed tables house (words_of house) (arrival house t m) v answer (λ (w : ShopView). Views tables.holds new.tables new.state w) (once.served v is.views) in
       let kept = keeps house t m answer v x.0 is.sound once.fit x.1 in
       (x.0, (x.1, kept.0), record { views = x.2; sound = kept.1 })
 
-  pub nothing-too-much : (v : ShopView) (old new : Devices (DeskView T)) (result : Result (Unit {0}) Failure) → IsSound v.state
-      → RunLeads (Serves tables) old new result → tables.sure new.desk.tables → IsOf tables house old.desk → Views tables.holds old.desk.tables old.desk.state v
-      → (w : ShopView) × RunLeads (ServesAndKeeps house) (with_desk old v) (with_desk new w) result × IsOf tables house new.desk × Views tables.holds new.desk.tables new.desk.state w × IsSound w.state
+  pub nothing-too-much : (v : ShopView) (old new : Devices (HandlerView T)) (result : Result (Unit {0}) Failure) → IsSound v.state
+      → RunLeads (Serves tables) old new result → tables.sure new.handler.tables → IsOf tables house old.handler → Views tables.holds old.handler.tables old.handler.state v
+      → (w : ShopView) × RunLeads (ServesAndKeeps house) (with_handler old v) (with_handler new w) result × IsOf tables house new.handler × Views tables.holds new.handler.tables new.handler.state w × IsSound w.state
   nothing-too-much v old new result sound run sure is views =
       let x = run-seen tables house IsSoundAt (ServesAndKeeps house) keeps-once old new result v run sure is (record { views = views; sound = sound }) in
       (x.0, x.1, x.2, x.3.views, x.3.sound)
@@ -110,11 +110,11 @@ later-served words (Ok a) v Unavailable w is = subst (λ (x : ShopView). v.state
 later-served words (Err refusal) v answer w (is, told) = subst (λ (x : ShopView). v.state.moment ≤ x.state.moment) (sym is) (omega arith)
 
 module _ {T : Type 0} (tables : Meaning T) (house : House) (start : ℕ) where
-  pub record IsLater (d : DeskView T) (v : ShopView) : Type 0 where
+  pub record IsLater (d : HandlerView T) (v : ShopView) : Type 0 where
     pub views : Views tables.holds d.tables d.state v
     pub later : start ≤ v.state.moment
 
-  later-once : (old : DeskView T) (t : Tick) (m : Message) (answer : Answer) (new : DeskView T) (v : ShopView) → ServesOnce tables (words_of house) old (arrival house t m) answer new → IsLater old v
+  later-once : (old : HandlerView T) (t : Tick) (m : Message) (answer : Answer) (new : HandlerView T) (v : ShopView) → ServesOnce tables (words_of house) old (arrival house t m) answer new → IsLater old v
       → (w : ShopView) × ServesShop house v t m answer w × IsLater new w
   later-once old t m answer new v once is =
       let x = viewed tables house (words_of house) (arrival house t m) v answer (λ (w : ShopView). Views tables.holds new.tables new.state w) (once.served v is.views) in
@@ -122,13 +122,13 @@ module _ {T : Type 0} (tables : Meaning T) (house : House) (start : ℕ) where
       let before = is.later in
       (x.0, x.1, record { views = x.2; later = omega (arith, step, before) })
 
-  pub never-falls : (v : ShopView) (old new : Devices (DeskView T)) (result : Result (Unit {0}) Failure) → start ≤ v.state.moment
-      → RunLeads (Serves tables) old new result → tables.sure new.desk.tables → IsOf tables house old.desk → Views tables.holds old.desk.tables old.desk.state v → start ≤ new.desk.state.moment
+  pub never-falls : (v : ShopView) (old new : Devices (HandlerView T)) (result : Result (Unit {0}) Failure) → start ≤ v.state.moment
+      → RunLeads (Serves tables) old new result → tables.sure new.handler.tables → IsOf tables house old.handler → Views tables.holds old.handler.tables old.handler.state v → start ≤ new.handler.state.moment
   never-falls v old new result later run sure is views =
       let x = run-seen tables house IsLater (ServesShop house) later-once old new result v run sure is (record { views = views; later = later }) in
       subst (λ (s : State). start ≤ s.moment) (sym x.3.views.state_is) x.3.later
 
-pub time-never-falls : {T : Type 0} (tables : Meaning T) (house : House) (v : ShopView) (old new : Devices (DeskView T)) (result : Result (Unit {0}) Failure)
-    → RunLeads (Serves tables) old new result → tables.sure new.desk.tables → IsOf tables house old.desk → Views tables.holds old.desk.tables old.desk.state v → old.desk.state.moment ≤ new.desk.state.moment
+pub time-never-falls : {T : Type 0} (tables : Meaning T) (house : House) (v : ShopView) (old new : Devices (HandlerView T)) (result : Result (Unit {0}) Failure)
+    → RunLeads (Serves tables) old new result → tables.sure new.handler.tables → IsOf tables house old.handler → Views tables.holds old.handler.tables old.handler.state v → old.handler.state.moment ≤ new.handler.state.moment
 time-never-falls tables house v old new result run sure is views =
-    subst (λ (s : State). s.moment ≤ new.desk.state.moment) (sym views.state_is) (never-falls tables house v.state.moment v old new result (omega arith) run sure is views)
+    subst (λ (s : State). s.moment ≤ new.handler.state.moment) (sym views.state_is) (never-falls tables house v.state.moment v old new result (omega arith) run sure is views)

@@ -14,24 +14,24 @@ use Rattle.office_deliveries.specs.Histories.{Event, Answered, Unanswered, Runni
 use Rattle.office_deliveries.proofs.Crashes.{happens_on}
 use Rattle.office_deliveries.specs.Shops.{Views, StandsFor, arrival_served}
 use Rattle.web_connection.specs.declared.failure.Failure.{Failure}
-use Rattle.web_connection.specs.Run.{AtTick, Item, Runs, Devices, with_desk, RunLeads}
+use Rattle.web_connection.specs.Run.{AtTick, Item, Runs, Devices, with_handler, RunLeads}
 use Rattle.web_connection.proofs.FollowLemmas.{Follows, follows_at, runs_follow, run_follows}
 use Rattle.web_arrivals.specs.Coming.{arrival}
-use Rattle.web_arrivals.specs.DeskView.{DeskView, Meaning, House, IsOf, house_of, words_of}
+use Rattle.web_arrivals.specs.HandlerView.{HandlerView, Meaning, House, IsOf, house_of, words_of}
 use Rattle.web_arrivals.specs.Served.{IsServed, IsListed, ServesOnce, Serves, after_message}
 use Rattle.web_arrivals.specs.Streams.{Decides, ServesHistory, ServesList, ServesRunning, events_of}
 
 module _ {T : Type 0} (tables : Meaning T) (house : House) where
-  pub is-house : (d : DeskView T) → IsOf tables house d → house_of d house ≡ house
+  pub is-house : (d : HandlerView T) → IsOf tables house d → house_of d house ≡ house
   is-house d is = ap₂ (λ (a b : List ℕ). let h : House = record house { organizer = a; event = b } in h) is.organizer is.event
 
   -- a message as this house has it
-  pub once-of : (old : DeskView T) (t : Tick) (m : Message) (answer : Answer) (new : DeskView T) → IsOf tables house old → tables.sure new.tables → Serves tables old t m answer new
+  pub once-of : (old : HandlerView T) (t : Tick) (m : Message) (answer : Answer) (new : HandlerView T) → IsOf tables house old → tables.sure new.tables → Serves tables old t m answer new
       → ServesOnce tables (words_of house) old (arrival house t m) answer new
   once-of old t m answer new is sure serves =
       subst (λ (h : House). ServesOnce tables (words_of h) old (arrival h t m) answer new) (is-house old is) (serves.once sure house is.known)
 
-  pub is-still : (old : DeskView T) (t : Tick) (m : Message) (answer : Answer) (new : DeskView T) → IsOf tables house old → tables.sure new.tables → Serves tables old t m answer new → IsOf tables house new
+  pub is-still : (old : HandlerView T) (t : Tick) (m : Message) (answer : Answer) (new : HandlerView T) → IsOf tables house old → tables.sure new.tables → Serves tables old t m answer new → IsOf tables house new
   is-still old t m answer new is sure serves = record {
     organizer = serves.organizer ∙ is.organizer;
     event = serves.event ∙ is.event;
@@ -39,12 +39,12 @@ module _ {T : Type 0} (tables : Meaning T) (house : House) where
   }
 
   -- a desk of this house that is seen so
-  pub record IsSeen {E : Type 0} (Rel : DeskView T → E → Type 0) (d : DeskView T) (seen : E) : Type 0 where
+  pub record IsSeen {E : Type 0} (Rel : HandlerView T → E → Type 0) (d : HandlerView T) (seen : E) : Type 0 where
     pub of : IsOf tables house d
     pub rel : Rel d seen
 
-  module _ {E : Type 0} (Rel : DeskView T → E → Type 0) (Other : E → Tick → Message → Answer → E → Type 0)
-      (one : (old : DeskView T) (t : Tick) (m : Message) (answer : Answer) (new : DeskView T) (seen : E) → ServesOnce tables (words_of house) old (arrival house t m) answer new → Rel old seen
+  module _ {E : Type 0} (Rel : HandlerView T → E → Type 0) (Other : E → Tick → Message → Answer → E → Type 0)
+      (one : (old : HandlerView T) (t : Tick) (m : Message) (answer : Answer) (new : HandlerView T) (seen : E) → ServesOnce tables (words_of house) old (arrival house t m) answer new → Rel old seen
       → (left : E) × Other seen t m answer left × Rel new left) where
     follows : Follows (Serves tables) Other (λ d. tables.sure d.tables) (IsSeen Rel)
     follows = record {
@@ -54,30 +54,30 @@ module _ {T : Type 0} (tables : Meaning T) (house : House) where
           (x.0, x.1, record { of = is-still old t m answer new is.of sure serves; rel = x.2 });
     }
 
-    pub run-seen : (old new : Devices (DeskView T)) (result : Result (Unit {0}) Failure) (seen : E) → RunLeads (Serves tables) old new result → tables.sure new.desk.tables
-        → IsOf tables house old.desk → Rel old.desk seen
-        → (left : E) × RunLeads Other (with_desk old seen) (with_desk new left) result × IsOf tables house new.desk × Rel new.desk left
+    pub run-seen : (old new : Devices (HandlerView T)) (result : Result (Unit {0}) Failure) (seen : E) → RunLeads (Serves tables) old new result → tables.sure new.handler.tables
+        → IsOf tables house old.handler → Rel old.handler seen
+        → (left : E) × RunLeads Other (with_handler old seen) (with_handler new left) result × IsOf tables house new.handler × Rel new.handler left
     run-seen old new result seen run sure is rel =
-        let x = run_follows (Serves tables) Other (λ (d : DeskView T). tables.sure d.tables) (IsSeen Rel) follows old new result seen run sure (record { of = is; rel = rel }) in
+        let x = run_follows (Serves tables) Other (λ (d : HandlerView T). tables.sure d.tables) (IsSeen Rel) follows old new result seen run sure (record { of = is; rel = rel }) in
         (x.0, x.1, x.2.of, x.2.rel)
 
     -- the same at ticks of which something is known
-    pub run-seen-at : (reads : Option Tick → Type 0) (old new : Devices (DeskView T)) (result : Result (Unit {0}) Failure) (seen : E) → RunLeads (AtTick reads (Serves tables)) old new result
-        → tables.sure new.desk.tables → IsOf tables house old.desk → Rel old.desk seen
-        → (left : E) × RunLeads (AtTick reads Other) (with_desk old seen) (with_desk new left) result × IsOf tables house new.desk × Rel new.desk left
+    pub run-seen-at : (reads : Option Tick → Type 0) (old new : Devices (HandlerView T)) (result : Result (Unit {0}) Failure) (seen : E) → RunLeads (AtTick reads (Serves tables)) old new result
+        → tables.sure new.handler.tables → IsOf tables house old.handler → Rel old.handler seen
+        → (left : E) × RunLeads (AtTick reads Other) (with_handler old seen) (with_handler new left) result × IsOf tables house new.handler × Rel new.handler left
     run-seen-at reads old new result seen run sure is rel =
-        let at = follows_at reads (Serves tables) Other (λ (d : DeskView T). tables.sure d.tables) (IsSeen Rel) follows in
-        let x = run_follows (AtTick reads (Serves tables)) (AtTick reads Other) (λ (d : DeskView T). tables.sure d.tables) (IsSeen Rel) at old new result seen run sure (record { of = is; rel = rel }) in
+        let at = follows_at reads (Serves tables) Other (λ (d : HandlerView T). tables.sure d.tables) (IsSeen Rel) follows in
+        let x = run_follows (AtTick reads (Serves tables)) (AtTick reads Other) (λ (d : HandlerView T). tables.sure d.tables) (IsSeen Rel) at old new result seen run sure (record { of = is; rel = rel }) in
         (x.0, x.1, x.2.of, x.2.rel)
 
   -- a message, as those see it that follow the desk in this way
-  abbrev pub Once : {E : Type 0} → (DeskView T → E → Type 0) → (E → Tick → Message → Answer → E → Type 0) → Type 0
-  Once {E = E} Rel Other = (old : DeskView T) (t : Tick) (m : Message) (answer : Answer) (new : DeskView T) (seen : E) → ServesOnce tables (words_of house) old (arrival house t m) answer new → Rel old seen
+  abbrev pub Once : {E : Type 0} → (HandlerView T → E → Type 0) → (E → Tick → Message → Answer → E → Type 0) → Type 0
+  Once {E = E} Rel Other = (old : HandlerView T) (t : Tick) (m : Message) (answer : Answer) (new : HandlerView T) (seen : E) → ServesOnce tables (words_of house) old (arrival house t m) answer new → Rel old seen
       → (left : E) × Other seen t m answer left × Rel new left
 
   -- ---- as a list of arrivals
 
-  abbrev pub StandsAt : Opening → DeskView T → List Delivery → Type 0
+  abbrev pub StandsAt : Opening → HandlerView T → List Delivery → Type 0
   StandsAt p d ds = StandsFor (words_of house) tables.holds d.tables d.state p ds
 
   listed : (words : Reply → Response) (coming : Result Arrival Response) (p : Opening) (ds : List Delivery) (answer : Answer) (Leads : List Delivery → Type 0) → IsListed words coming p ds answer Leads
@@ -88,14 +88,14 @@ module _ {T : Type 0} (tables : Meaning T) (house : House) where
   pub listed-once : (p : Opening) → Once (StandsAt p) (ServesList house p)
   listed-once p d t m answer e seen once stands = listed (words_of house) (arrival house t m) p seen answer (StandsAt p e) (once.stands p seen stands)
 
-  pub told-once : (p : Opening) (ds : List Delivery) (old new : Devices (DeskView T)) (result : Result (Unit {0}) Failure)
-      → RunLeads (Serves tables) old new result → tables.sure new.desk.tables → IsOf tables house old.desk → StandsAt p old.desk ds
-      → (es : List Delivery) × RunLeads (ServesList house p) (with_desk old ds) (with_desk new es) result × IsOf tables house new.desk × StandsAt p new.desk es
+  pub told-once : (p : Opening) (ds : List Delivery) (old new : Devices (HandlerView T)) (result : Result (Unit {0}) Failure)
+      → RunLeads (Serves tables) old new result → tables.sure new.handler.tables → IsOf tables house old.handler → StandsAt p old.handler ds
+      → (es : List Delivery) × RunLeads (ServesList house p) (with_handler old ds) (with_handler new es) result × IsOf tables house new.handler × StandsAt p new.handler es
   told-once p ds old new result = run-seen (StandsAt p) (ServesList house p) (listed-once p) old new result ds
 
   -- ---- as a shop
 
-  abbrev pub ViewsAt : DeskView T → ShopView → Type 0
+  abbrev pub ViewsAt : HandlerView T → ShopView → Type 0
   ViewsAt d v = Views tables.holds d.tables d.state v
 
   pub viewed : (words : Reply → Response) (coming : Result Arrival Response) (v : ShopView) (answer : Answer) (Leads : ShopView → Type 0) → IsServed words coming v answer Leads
@@ -106,7 +106,7 @@ module _ {T : Type 0} (tables : Meaning T) (house : House) where
 
   -- ---- as a running shop
 
-  abbrev pub RunsAt : DeskView T → Running → Type 0
+  abbrev pub RunsAt : HandlerView T → Running → Type 0
   RunsAt d r = IsRunning (words_of house) tables.holds tables.may_leave d.tables d.state r
 
   still-served : (words : Reply → Response) (coming : Result Arrival Response) (r : Running) (answer : Answer) (Leads : ShopView → Type 0) → IsServed words coming r.shop answer Leads
@@ -122,15 +122,15 @@ module _ {T : Type 0} (tables : Meaning T) (house : House) where
     once.running q running,
   )
 
-  pub run-on : (r : Running) (old new : Devices (DeskView T)) (result : Result (Unit {0}) Failure)
-      → RunLeads (Serves tables) old new result → tables.sure new.desk.tables → IsOf tables house old.desk → RunsAt old.desk r
-      → (s : Running) × RunLeads (ServesRunning house) (with_desk old r) (with_desk new s) result × IsOf tables house new.desk × RunsAt new.desk s
+  pub run-on : (r : Running) (old new : Devices (HandlerView T)) (result : Result (Unit {0}) Failure)
+      → RunLeads (Serves tables) old new result → tables.sure new.handler.tables → IsOf tables house old.handler → RunsAt old.handler r
+      → (s : Running) × RunLeads (ServesRunning house) (with_handler old r) (with_handler new s) result × IsOf tables house new.handler × RunsAt new.handler s
   run-on r old new result = run-seen RunsAt (ServesRunning house) runs-once old new result r
 
   -- ---- as a history that goes on
 
   -- the shop is running as these events left it that had begun so
-  abbrev pub HappensAt : Running → DeskView T → List Event → Type 0
+  abbrev pub HappensAt : Running → HandlerView T → List Event → Type 0
   HappensAt begun d es = (r : Running) × Happens (words_of house) begun es r × RunsAt d r
 
   happens-next : (words : Reply → Response) (coming : Result Arrival Response) (answer : Answer) (begun r : Running) (es : List Event) (Leads : ShopView → Type 0) → Happens words begun es r
@@ -182,7 +182,7 @@ decided-is words (Ok a) v response Leads (leads, is) = (ap (λ (r : Response). l
 decided-is words (Err refusal) v response Leads (leads, is) = (ap (λ (r : Response). let answer : Answer = Decided r in answer) is, leads)
 
 module _ {T : Type 0} (tables : Meaning T) (house : House) where
-  decided-once : (old : DeskView T) (t : Tick) (m : Message) (answer : Answer) (response : Response) (new : DeskView T) (v : ShopView) → answer ≡ Decided response
+  decided-once : (old : HandlerView T) (t : Tick) (m : Message) (answer : Answer) (response : Response) (new : HandlerView T) (v : ShopView) → answer ≡ Decided response
       → ServesOnce tables (words_of house) old (arrival house t m) answer new → ViewsAt tables house old v
       → (w : ShopView) × Tells house v t m answer w × ViewsAt tables house new w
   decided-once old t m answer response new v is once views =
@@ -199,13 +199,13 @@ module _ {T : Type 0} (tables : Meaning T) (house : House) where
         (x.0, x.1, record { of = is-still tables house old t m answer new is.of sure decides.0; rel = x.2 });
   }
 
-  decides-seen : (old : DeskView T) (ticks : List Tick) (items : List Item) (a : List ℕ) (new : DeskView T) (v : ShopView) → Runs (Decides tables) old ticks items a new → tables.sure new.tables
+  decides-seen : (old : HandlerView T) (ticks : List Tick) (items : List Item) (a : List ℕ) (new : HandlerView T) (v : ShopView) → Runs (Decides tables) old ticks items a new → tables.sure new.tables
       → IsOf tables house old → ViewsAt tables house old v → (w : ShopView) × Runs (Tells house) v ticks items a w × ViewsAt tables house new w
   decides-seen old ticks items a new v runs sure is views =
-      let x = runs_follow (Decides tables) (Tells house) (λ (d : DeskView T). tables.sure d.tables) (IsSeen tables house (ViewsAt tables house)) decides-follow old ticks items a new v runs sure (record { of = is; rel = views }) in
+      let x = runs_follow (Decides tables) (Tells house) (λ (d : HandlerView T). tables.sure d.tables) (IsSeen tables house (ViewsAt tables house)) decides-follow old ticks items a new v runs sure (record { of = is; rel = views }) in
       (x.0, x.1, x.2.rel)
 
-pub all-alike : {T U : Type 0} (tables : Meaning T) (others : Meaning U) (house : House) (v : ShopView) (old new : DeskView T) (other newer : DeskView U) (ticks : List Tick) (items : List Item) (a b : List ℕ)
+pub all-alike : {T U : Type 0} (tables : Meaning T) (others : Meaning U) (house : House) (v : ShopView) (old new : HandlerView T) (other newer : HandlerView U) (ticks : List Tick) (items : List Item) (a b : List ℕ)
     → Runs (Decides tables) old ticks items a new → Runs (Decides others) other ticks items b newer → tables.sure new.tables → others.sure newer.tables → IsOf tables house old → IsOf others house other
     → ViewsAt tables house old v → ViewsAt others house other v → (a ≡ b) × ((w : ShopView) × ViewsAt tables house new w × ViewsAt others house newer w)
 all-alike tables others house v old new other newer ticks items a b runs runs' sure sure' is is' views views' =

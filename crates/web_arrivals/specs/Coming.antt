@@ -12,7 +12,7 @@ use Rattle.web_api.specs.Token.{token_of}
 use Rattle.office_deliveries.specs.declared.arrival.Arrival.{Arrival}
 use Rattle.office_deliveries.specs.declared.arrival.Request.{Request}
 use Rattle.office_deliveries.specs.declared.arrival.Request.TheVariants as requests
-use Rattle.web_arrivals.specs.DeskView.{House}
+use Rattle.web_arrivals.specs.HandlerView.{House}
 
 -- the number of the token that a message shows, by the SHA-256 digest of its text; none where it shows none, or that isn't known
 abbrev pub number_of : (List ℕ → Option ℕ) → Message → Option ℕ

@@ -8,7 +8,7 @@ use Rattle.model_answers.specs.declared.kept.Kept.{Kept}
 use Rattle.model_answers.specs.ShopView.{ShopView}
 use Rattle.web_responses.specs.Statuses.{is_given}
 use Rattle.web_api.specs.Statuses.{status_of}
-use Rattle.web_arrivals.specs.DeskView.{House}
+use Rattle.web_arrivals.specs.HandlerView.{House}
 use Rattle.web_arrivals.specs.Streams.{ServesShop}
 
 -- each answer that is kept has such a status

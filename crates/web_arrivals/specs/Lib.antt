@@ -1,4 +1,4 @@
-pub mod DeskView
+pub mod HandlerView
 pub mod Seen
 pub mod Coming
 pub mod Served

@@ -13,7 +13,7 @@ use Rattle.office_deliveries.specs.Histories.{Running, after_act}
 use Rattle.office_deliveries.specs.Shops.{IsAnswered, arrival_delivered}
 use Rattle.model_answers.specs.ShopView.{ShopView}
 use Rattle.web_arrivals.specs.Coming.{arrival}
-use Rattle.web_arrivals.specs.DeskView.{DeskView, House, Meaning, house_of, words_of}
+use Rattle.web_arrivals.specs.HandlerView.{HandlerView, House, Meaning, house_of, words_of}
 use Rattle.web_arrivals.specs.Seen.{HasList, HasRunning, HasShop}
 
 -- without an arrival it is 401, in these words, or 503
@@ -47,7 +47,7 @@ module _ (words : Reply → Response) where
 -- A message that is this arrival, or none, is served once: as a shop is seen before, so it is served and seen after, whether it
 -- is seen by its rows and its kept answers, as a shop that stands for a list of arrivals, or as a running one, with what a crash
 -- may leave of it. Where it is answered 503, all stays as it was.
-pub record ServesOnce {T : Type 0} (tables : Meaning T) (words : Reply → Response) (old : DeskView T) (coming : Result Arrival Response) (answer : Answer) (new : DeskView T) : Type 0 where
+pub record ServesOnce {T : Type 0} (tables : Meaning T) (words : Reply → Response) (old : HandlerView T) (coming : Result Arrival Response) (answer : Answer) (new : HandlerView T) : Type 0 where
   pub served : (v : ShopView) → HasShop tables old v → IsServed words coming v answer (λ w. HasShop tables new w)
   pub stands : (p : Opening) (ds : List Delivery) → HasList tables words old p ds → IsListed words coming p ds answer (λ es. HasList tables words new p es)
   pub running : (r : Running) → HasRunning tables words old r → HasRunning tables words new (after_message words coming answer r)
@@ -56,7 +56,7 @@ pub record ServesOnce {T : Type 0} (tables : Meaning T) (words : Reply → Respo
 
 -- A desk keeps its names, and where it answers 503 its office, whatever became of its tables. Where these are sure after a message they
 -- were so before it, and the message is served once, as the arrival that it is by the house that they know.
-pub record Serves {T : Type 0} (tables : Meaning T) (old : DeskView T) (tick : Tick) (m : Message) (answer : Answer) (new : DeskView T) : Type 0 where
+pub record Serves {T : Type 0} (tables : Meaning T) (old : HandlerView T) (tick : Tick) (m : Message) (answer : Answer) (new : HandlerView T) : Type 0 where
   pub organizer : new.organizer ≡ old.organizer
   pub event : new.event ≡ old.event
   pub office : answer ≡ Unavailable → new.state ≡ old.state

@@ -18,11 +18,11 @@ use Rattle.office_deliveries.specs.Histories.{Event, Answered, Unanswered, Runni
 use Rattle.office_deliveries.specs.Shops.{executes}
 use Rattle.model_answers.specs.ShopView.{ShopView}
 use Rattle.web_arrivals.specs.Coming.{arrival}
-use Rattle.web_arrivals.specs.DeskView.{DeskView, Meaning, House, words_of}
+use Rattle.web_arrivals.specs.HandlerView.{HandlerView, Meaning, House, words_of}
 use Rattle.web_arrivals.specs.Served.{IsServed, IsListed, Serves, after_message}
 
 -- the message is answered other than 503
-abbrev pub Decides : {T : Type 0} → Meaning T → DeskView T → Tick → Message → Answer → DeskView T → Type 0
+abbrev pub Decides : {T : Type 0} → Meaning T → HandlerView T → Tick → Message → Answer → HandlerView T → Type 0
 Decides tables old tick m answer new = Serves tables old tick m answer new × ((response : Response) × (answer ≡ Decided response))
 
 -- ---- what an arrival does to the rows

@@ -5,7 +5,7 @@ use Rattle.base_devices.specs.declared.device.Tick.{Tick}
 use Rattle.web_http.specs.Messages.{Message, whole}
 use Rattle.web_connection.specs.declared.failure.Failure.{Failure}
 use Rattle.web_connection.specs.declared.failure.Failure.TheVariants as failures
-use Rattle.web_connection.specs.Run.{AtTick, Item, Runs, Cursor, cursor, Progress, Finished, CutOff, Stopped, BreaksOff, Streams, Devices, with_desk, RunLeads}
+use Rattle.web_connection.specs.Run.{AtTick, Item, Runs, Cursor, cursor, Progress, Finished, CutOff, Stopped, BreaksOff, Streams, Devices, with_handler, RunLeads}
 
 -- A desk follows another one, as long as it is sure: of each message that it answers the other one gives the same answer, and
 -- as what it was seen before, so it is seen after. Where it is sure after a message, it was so before.
@@ -24,7 +24,7 @@ follows_at reads Serves Other Sure Seen follows = record {
 
 -- a place in a run with another desk there
 abbrev pub seen_as : {D E : Type 0} → Cursor D → E → Cursor E
-seen_as place desk = cursor place.left place.told desk place.taken
+seen_as place handler = cursor place.left place.told handler place.taken
 
 -- where a desk is sure after a run, it was so before it
 module _ {D : Type 0} (Serves : D → Tick → Message → Answer → D → Type 0) (Sure : D → Type 0)
@@ -37,21 +37,21 @@ module _ {D : Type 0} (Serves : D → Tick → Message → Answer → D → Type
   runs_sure old (t ∷ ts) (Err f ∷ items) written new x sure = absurd x
   runs_sure old (t ∷ ts) (Ok m ∷ items) written new (mid, answer, rest, serves, is, x) sure = was_sure old t m answer mid serves (runs_sure mid ts items rest new x sure)
 
-  breaks_sure : (e : Failure) (mid new : Cursor D) → BreaksOff Serves e mid new → Sure new.desk → Sure mid.desk
-  breaks_sure failures.Output mid new cut sure = runs_sure mid.desk cut.ticks (cut.item ∷ []) (cut.part ++ cut.rest) new.desk cut.runs sure
-  breaks_sure failures.Clock mid new (stopped, next) sure = subst Sure stopped.desk sure
-  breaks_sure failures.Input mid new (stopped, none) sure = subst Sure stopped.desk sure
-  breaks_sure failures.Limit mid new (stopped, none) sure = subst Sure stopped.desk sure
-  breaks_sure failures.Memory mid new (stopped, loses) sure = subst Sure stopped.desk sure
+  breaks_sure : (e : Failure) (mid new : Cursor D) → BreaksOff Serves e mid new → Sure new.handler → Sure mid.handler
+  breaks_sure failures.Output mid new cut sure = runs_sure mid.handler cut.ticks (cut.item ∷ []) (cut.part ++ cut.rest) new.handler cut.runs sure
+  breaks_sure failures.Clock mid new (stopped, next) sure = subst Sure stopped.handler sure
+  breaks_sure failures.Input mid new (stopped, none) sure = subst Sure stopped.handler sure
+  breaks_sure failures.Limit mid new (stopped, none) sure = subst Sure stopped.handler sure
+  breaks_sure failures.Memory mid new (stopped, loses) sure = subst Sure stopped.handler sure
 
-  streams_sure : (after : Option (List ℕ)) (old new : Cursor D) (result : Result (Unit {0}) Failure) → Streams Serves after old new result → Sure new.desk → Sure old.desk
-  streams_sure after old new (Ok u) f sure = runs_sure old.desk f.ticks f.items f.written new.desk f.runs sure
+  streams_sure : (after : Option (List ℕ)) (old new : Cursor D) (result : Result (Unit {0}) Failure) → Streams Serves after old new result → Sure new.handler → Sure old.handler
+  streams_sure after old new (Ok u) f sure = runs_sure old.handler f.ticks f.items f.written new.handler f.runs sure
   streams_sure after old new (Err e) broken sure =
       let before = broken.before in
-      runs_sure old.desk before.ticks (map whole before.messages) before.written broken.mid.desk before.runs (breaks_sure e broken.mid new broken.last sure)
+      runs_sure old.handler before.ticks (map whole before.messages) before.written broken.mid.handler before.runs (breaks_sure e broken.mid new broken.last sure)
 
-  pub run_sure : (old new : Devices D) (result : Result (Unit {0}) Failure) → RunLeads Serves old new result → Sure new.desk → Sure old.desk
-  run_sure old new result run sure = streams_sure new.left (cursor run.bytes old.told old.desk old.taken) (cursor [] new.told new.desk new.taken) result run.streams sure
+  pub run_sure : (old new : Devices D) (result : Result (Unit {0}) Failure) → RunLeads Serves old new result → Sure new.handler → Sure old.handler
+  run_sure old new result run sure = streams_sure new.left (cursor run.bytes old.told old.handler old.taken) (cursor [] new.told new.handler new.taken) result run.streams sure
 
 module _ {D E : Type 0} (Serves : D → Tick → Message → Answer → D → Type 0) (Other : E → Tick → Message → Answer → E → Type 0) (Sure : D → Type 0) (Seen : D → E → Type 0)
     (follows : Follows Serves Other Sure Seen) where
@@ -67,48 +67,48 @@ module _ {D E : Type 0} (Serves : D → Tick → Message → Answer → D → Ty
       let others = runs_follow mid ts items rest new one.0 x sure one.2 in
       (others.0, (one.0, answer, rest, one.1, text_is, others.1), others.2)
 
-  progress_follows : (old new : Cursor D) (seen : E) → Progress Serves old new → Sure new.desk → Seen old.desk seen → (left : E) × Progress Other (seen_as old seen) (seen_as new left) × Seen new.desk left
+  progress_follows : (old new : Cursor D) (seen : E) → Progress Serves old new → Sure new.handler → Seen old.handler seen → (left : E) × Progress Other (seen_as old seen) (seen_as new left) × Seen new.handler left
   progress_follows old new seen p sure is =
-      let x = runs_follow old.desk p.ticks (map whole p.messages) p.written new.desk seen p.runs sure is in
+      let x = runs_follow old.handler p.ticks (map whole p.messages) p.written new.handler seen p.runs sure is in
       (x.0, record { messages = p.messages; ticks = p.ticks; written = p.written; chain = p.chain; told = p.told; taken = p.taken; runs = x.1 }, x.2)
 
-  finished_follows : (IsOf : List Item → Type 0) (old new : Cursor D) (seen : E) → Finished Serves IsOf old new → Sure new.desk → Seen old.desk seen
-      → (left : E) × Finished Other IsOf (seen_as old seen) (seen_as new left) × Seen new.desk left
+  finished_follows : (IsOf : List Item → Type 0) (old new : Cursor D) (seen : E) → Finished Serves IsOf old new → Sure new.handler → Seen old.handler seen
+      → (left : E) × Finished Other IsOf (seen_as old seen) (seen_as new left) × Seen new.handler left
   finished_follows IsOf old new seen f sure is =
-      let x = runs_follow old.desk f.ticks f.items f.written new.desk seen f.runs sure is in
+      let x = runs_follow old.handler f.ticks f.items f.written new.handler seen f.runs sure is in
       (x.0, record { items = f.items; ticks = f.ticks; written = f.written; all = f.all; told = f.told; taken = f.taken; runs = x.1 }, x.2)
 
   -- where a run breaks off
   abbrev pub BreaksSeen : Failure → Cursor D → Cursor D → E → Type 0
-  BreaksSeen e mid new seen = (left : E) × BreaksOff Other e (seen_as mid seen) (seen_as new left) × Seen new.desk left
+  BreaksSeen e mid new seen = (left : E) × BreaksOff Other e (seen_as mid seen) (seen_as new left) × Seen new.handler left
 
-  stopped_follows : (mid new : Cursor D) (seen : E) → Stopped mid new → Seen mid.desk seen → Stopped (seen_as mid seen) (seen_as new seen) × Seen new.desk seen
-  stopped_follows mid new seen stopped is = (record { told = stopped.told; taken = stopped.taken; desk = refl }, subst (λ (d : D). Seen d seen) (sym stopped.desk) is)
+  stopped_follows : (mid new : Cursor D) (seen : E) → Stopped mid new → Seen mid.handler seen → Stopped (seen_as mid seen) (seen_as new seen) × Seen new.handler seen
+  stopped_follows mid new seen stopped is = (record { told = stopped.told; taken = stopped.taken; handler = refl }, subst (λ (d : D). Seen d seen) (sym stopped.handler) is)
 
-  cut_follows : (mid new : Cursor D) (seen : E) → CutOff Serves mid new → Sure new.desk → Seen mid.desk seen → (left : E) × CutOff Other (seen_as mid seen) (seen_as new left) × Seen new.desk left
+  cut_follows : (mid new : Cursor D) (seen : E) → CutOff Serves mid new → Sure new.handler → Seen mid.handler seen → (left : E) × CutOff Other (seen_as mid seen) (seen_as new left) × Seen new.handler left
   cut_follows mid new seen cut sure is =
-      let x = runs_follow mid.desk cut.ticks (cut.item ∷ []) (cut.part ++ cut.rest) new.desk seen cut.runs sure is in
+      let x = runs_follow mid.handler cut.ticks (cut.item ∷ []) (cut.part ++ cut.rest) new.handler seen cut.runs sure is in
       (x.0, record { item = cut.item; ticks = cut.ticks; part = cut.part; rest = cut.rest; next = cut.next; told = cut.told; taken = cut.taken; runs = x.1 }, x.2)
 
-  breaks_follow : (e : Failure) (mid new : Cursor D) (seen : E) → BreaksOff Serves e mid new → Sure new.desk → Seen mid.desk seen → BreaksSeen e mid new seen
+  breaks_follow : (e : Failure) (mid new : Cursor D) (seen : E) → BreaksOff Serves e mid new → Sure new.handler → Seen mid.handler seen → BreaksSeen e mid new seen
   breaks_follow failures.Output mid new seen cut sure is = cut_follows mid new seen cut sure is
   breaks_follow failures.Clock mid new seen (stopped, next) sure is = let x = stopped_follows mid new seen stopped is in (seen, (x.0, next), x.1)
   breaks_follow failures.Input mid new seen (stopped, none) sure is = let x = stopped_follows mid new seen stopped is in (seen, (x.0, none), x.1)
   breaks_follow failures.Limit mid new seen (stopped, none) sure is = let x = stopped_follows mid new seen stopped is in (seen, (x.0, none), x.1)
   breaks_follow failures.Memory mid new seen (stopped, loses) sure is = let x = stopped_follows mid new seen stopped is in (seen, (x.0, loses), x.1)
 
-  streams_follow : (after : Option (List ℕ)) (old new : Cursor D) (result : Result (Unit {0}) Failure) (seen : E) → Streams Serves after old new result → Sure new.desk → Seen old.desk seen
-      → (left : E) × Streams Other after (seen_as old seen) (seen_as new left) result × Seen new.desk left
+  streams_follow : (after : Option (List ℕ)) (old new : Cursor D) (result : Result (Unit {0}) Failure) (seen : E) → Streams Serves after old new result → Sure new.handler → Seen old.handler seen
+      → (left : E) × Streams Other after (seen_as old seen) (seen_as new left) result × Seen new.handler left
   streams_follow after old new (Ok u) seen f sure is = finished_follows _ old new seen f sure is
   streams_follow after old new (Err e) seen broken sure is =
       let before = progress_follows old broken.mid seen broken.before (breaks_sure Serves Sure follows.was_sure e broken.mid new broken.last sure) is in
       let last = breaks_follow e broken.mid new before.0 broken.last sure before.2 in
       (last.0, record { mid = seen_as broken.mid before.0; before = before.1; last = last.1 }, last.2)
 
-  pub run_follows : (old new : Devices D) (result : Result (Unit {0}) Failure) (seen : E) → RunLeads Serves old new result → Sure new.desk → Seen old.desk seen
-      → (left : E) × RunLeads Other (with_desk old seen) (with_desk new left) result × Seen new.desk left
+  pub run_follows : (old new : Devices D) (result : Result (Unit {0}) Failure) (seen : E) → RunLeads Serves old new result → Sure new.handler → Seen old.handler seen
+      → (left : E) × RunLeads Other (with_handler old seen) (with_handler new left) result × Seen new.handler left
   run_follows old new result seen run sure is =
-      let x = streams_follow new.left (cursor run.bytes old.told old.desk old.taken) (cursor [] new.told new.desk new.taken) result seen run.streams sure is in
+      let x = streams_follow new.left (cursor run.bytes old.told old.handler old.taken) (cursor [] new.told new.handler new.taken) result seen run.streams sure is in
       (x.0, record { bytes = run.bytes; given = run.given; pieces = run.pieces; streams = x.1 }, x.2)
 
 -- a run, whatever is known of its ticks
@@ -119,5 +119,5 @@ run_whenever {D} reads Serves old new result run =
       was_sure = λ before tick m answer after serves sure. tt;
       one = λ before tick m answer after seen serves sure is. (after, subst (λ (d : D). Serves d tick m answer after) (sym is) serves.1, refl);
     } in
-    let x = run_follows (AtTick reads Serves) Serves (λ d. Unit {0}) (λ d e. e ≡ d) itself old new result old.desk run tt refl in
-    subst (λ (d : D). RunLeads Serves old (with_desk new d) result) x.2 x.1
+    let x = run_follows (AtTick reads Serves) Serves (λ d. Unit {0}) (λ d e. e ≡ d) itself old new result old.handler run tt refl in
+    subst (λ (d : D). RunLeads Serves old (with_handler new d) result) x.2 x.1

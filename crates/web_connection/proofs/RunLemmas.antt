@@ -132,9 +132,9 @@ module _ {D : Type 0} (Serves : D → Tick → Message → Answer → D → Type
     chain = Chain-append p.left q.left r.left x.messages y.messages x.chain y.chain;
     told = Adds-append p.told q.told r.told x.ticks y.ticks x.told y.told;
     taken = Adds-append p.taken q.taken r.taken x.written y.written x.taken y.taken;
-    runs = subst (λ (items : List Item). Runs Serves p.desk (x.ticks ++ y.ticks) items (x.written ++ y.written) r.desk)
+    runs = subst (λ (items : List Item). Runs Serves p.handler (x.ticks ++ y.ticks) items (x.written ++ y.written) r.handler)
         (sym (map_whole x.messages y.messages))
-        (Runs-append Serves p.desk q.desk r.desk x.ticks y.ticks x.messages (map whole y.messages) x.written y.written x.runs y.runs);
+        (Runs-append Serves p.handler q.handler r.handler x.ticks y.ticks x.messages (map whole y.messages) x.written y.written x.runs y.runs);
   }
 
   pub finished_more : (p q r : Cursor D) → Progress Serves p q → Finished Serves (AreAlways q.left) q r → Finished Serves (AreAlways p.left) p r
@@ -145,7 +145,7 @@ module _ {D : Type 0} (Serves : D → Tick → Message → Answer → D → Type
     all = λ more. Chain-messages p.left q.left more x.messages y.items x.chain (y.all more);
     told = Adds-append p.told q.told r.told x.ticks y.ticks x.told y.told;
     taken = Adds-append p.taken q.taken r.taken x.written y.written x.taken y.taken;
-    runs = Runs-append Serves p.desk q.desk r.desk x.ticks y.ticks x.messages y.items x.written y.written x.runs y.runs;
+    runs = Runs-append Serves p.handler q.handler r.handler x.ticks y.ticks x.messages y.items x.written y.written x.runs y.runs;
   }
 
   pub broken_more : (e : Failure) (p q r : Cursor D) → Progress Serves p q → Broken Serves e q r → Broken Serves e p r
@@ -195,7 +195,7 @@ module _ {D : Type 0} (Serves : D → Tick → Message → Answer → D → Type
   -- ---- where a run breaks off
 
   stopped : (l l' : List ℕ) (t t' : Option (List Tick)) (d : D) (w : Option (List ℕ)) → Adds t [] t' → Stopped (cursor l t d w) (cursor l' t' d w)
-  stopped l l' t t' d w told = record { told = told; taken = Adds-nil w; desk = refl }
+  stopped l l' t t' d w told = record { told = told; taken = Adds-nil w; handler = refl }
 
   pub fault_broken : (l l' : List ℕ) (t : Option (List Tick)) (d : D) (w w' : Option (List ℕ)) (f : FrameFault) (part rest : List ℕ)
       → ((more : List ℕ) → Faults (l ++ more) f) → fault_text f ≡ part ++ rest → Adds w part w' → Broken Serves failures.Output (cursor l t d w) (cursor l' t d w')
@@ -248,13 +248,13 @@ module _ {D : Type 0} (Serves : D → Tick → Message → Answer → D → Type
 
   -- a reader that fails, or memory for what it gave that is refused
   pub read_broken : (e : Failure) (old new : Devices D) (b l l' : List ℕ) (g : Option (List ℕ)) (turn input input' : ℕ)
-      → Gives old.left b g → InPieces b turn 0 → Progress Serves (cursor b old.told old.desk old.taken) (cursor l new.told new.desk new.taken) → HasNone l
+      → Gives old.left b g → InPieces b turn 0 → Progress Serves (cursor b old.told old.handler old.taken) (cursor l new.told new.handler new.taken) → HasNone l
       → new.calls ≡ old.calls + turn + 1 → TakesIn (Err e) l l' g new.left → CountedIn (Err e) input input' → RunLeads Serves old new (Err e)
   read_broken failures.Input old new b l l' g turn input input' gives pieces x none calls read counted = record {
     bytes = b;
     given = subst (λ (s : List ℕ). Gives old.left s new.left) (append-nil b) (Gives-append old.left g new.left b [] gives read.0);
     pieces = record { most = omega (arith, pieces.most, calls); some = omega (arith, pieces.some, calls) };
-    streams = record { mid = cursor l new.told new.desk new.taken; before = x; last = (stopped l [] new.told new.told new.desk new.taken (Adds-nil new.told), none) };
+    streams = record { mid = cursor l new.told new.handler new.taken; before = x; last = (stopped l [] new.told new.told new.handler new.taken (Adds-nil new.told), none) };
   }
   read_broken failures.Memory old new b l l' g turn input input' gives pieces x none calls (input, read, (some, most), same) counted = record {
     bytes = b ++ input;
@@ -263,8 +263,8 @@ module _ {D : Type 0} (Serves : D → Tick → Message → Answer → D → Type
       most = omega (arith, length-append b input, pieces.most, most, calls);
       some = omega (arith, length-append b input, pieces.some, some, calls);
     };
-    streams = memory_broken _ (l ++ input) [] new.told new.desk new.taken
-        (progress_feed b l input old.told new.told old.desk new.desk old.taken new.taken x) (l, input, refl, none, most);
+    streams = memory_broken _ (l ++ input) [] new.told new.handler new.taken
+        (progress_feed b l input old.told new.told old.handler new.handler old.taken new.taken x) (l, input, refl, none, most);
   }
   read_broken failures.Output old new b l l' g turn input input' gives pieces x none calls read counted = absurd counted
   read_broken failures.Clock old new b l l' g turn input input' gives pieces x none calls read counted = absurd counted
@@ -275,7 +275,7 @@ module _ {D : Type 0} (Serves : D → Tick → Message → Answer → D → Type
   broken_at e p l l' t d w x = record { mid = x.mid; before = x.before; last = last_at e x.mid x.last }
     where
       stays : (q : Cursor D) → Stopped q (cursor l t d w) → Stopped q (cursor l' t d w)
-      stays q y = record { told = y.told; taken = y.taken; desk = y.desk }
+      stays q y = record { told = y.told; taken = y.taken; handler = y.handler }
 
       last_at : (f : Failure) (q : Cursor D) → BreaksOff Serves f q (cursor l t d w) → BreaksOff Serves f q (cursor l' t d w)
       last_at failures.Output q y = record { item = y.item; ticks = y.ticks; part = y.part; rest = y.rest; next = y.next; told = y.told; taken = y.taken; runs = y.runs }
@@ -303,13 +303,13 @@ module _ {D : Type 0} (Serves : D → Tick → Message → Answer → D → Type
     bytes = [];
     given = Gives-nil p.left;
     pieces = record { most = omega arith; some = omega arith };
-    streams = memory_broken (cursor [] p.told p.desk p.taken) [] [] p.told p.desk p.taken (progress_none _ _ refl) ([], [], refl, none_of_none, omega arith);
+    streams = memory_broken (cursor [] p.told p.handler p.taken) [] [] p.told p.handler p.taken (progress_none _ _ refl) ([], [], refl, none_of_none, omega arith);
   }
 
   -- all bytes that came were read in so many calls, and what they lead to is known
   pub run_leads : (old new : Devices D) (result : Result (Unit {0}) Failure) (bytes : List ℕ) (calls : ℕ) → Gives old.left bytes new.left
       → InPieces bytes calls 0 → new.calls ≡ old.calls + calls
-      → Streams Serves new.left (cursor bytes old.told old.desk old.taken) (cursor [] new.told new.desk new.taken) result → RunLeads Serves old new result
+      → Streams Serves new.left (cursor bytes old.told old.handler old.taken) (cursor [] new.told new.handler new.taken) result → RunLeads Serves old new result
   run_leads old new result bytes calls given pieces is streams = record {
     bytes = bytes;
     given = given;
@@ -320,7 +320,7 @@ module _ {D : Type 0} (Serves : D → Tick → Message → Answer → D → Type
   -- one more call gave nothing, at the end
   pub run_ends : (old new : Devices D) (u : Unit {0}) (bytes : List ℕ) (g : Option (List ℕ)) (calls : ℕ) → Gives old.left bytes g → Gives g [] new.left
       → InPieces bytes calls 0 → new.calls ≡ old.calls + calls + 1
-      → Finished Serves (AreAll bytes new.left) (cursor bytes old.told old.desk old.taken) (cursor [] new.told new.desk new.taken) → RunLeads Serves old new (Ok u)
+      → Finished Serves (AreAll bytes new.left) (cursor bytes old.told old.handler old.taken) (cursor [] new.told new.handler new.taken) → RunLeads Serves old new (Ok u)
   run_ends old new u bytes g calls given last pieces is finished = record {
     bytes = bytes;
     given = subst (λ (s : List ℕ). Gives old.left s new.left) (append-nil bytes) (Gives-append old.left g new.left bytes [] given last);

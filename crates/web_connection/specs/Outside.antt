@@ -24,7 +24,7 @@ outside r t w reader ticks writer =
 
 -- the devices of reader, clock and writer, with a desk among them
 abbrev pub devices_of : {D : Type 0} → D → Outside → Devices D
-devices_of desk now = record { left = now.left; calls = now.counts.calls; told = now.told; desk = desk; taken = now.taken }
+devices_of handler now = record { left = now.left; calls = now.counts.calls; told = now.told; handler = handler; taken = now.taken }
 
 -- A run over a stream, from one desk to another: what was read, told and written is of one run over the bytes that came; how it ended is
 -- what a device has counted; and the reader was called so often at most.

@@ -58,12 +58,12 @@ AreAll bytes after items = AreAlways bytes items ⊎ (Messages bytes items × Is
 pub record Cursor (D : Type 0) : Type 0 where
   pub left : List ℕ
   pub told : Option (List Tick)
-  pub desk : D
+  pub handler : D
   pub taken : Option (List ℕ)
 
 -- the cursor with these bytes left, these ticks, this desk and what was written
 abbrev pub cursor : {D : Type 0} → List ℕ → Option (List Tick) → D → Option (List ℕ) → Cursor D
-cursor left told desk taken = record { left = left; told = told; desk = desk; taken = taken }
+cursor left told handler taken = record { left = left; told = told; handler = handler; taken = taken }
 
 -- the messages at the front were answered, and none of them ends the connection
 pub record Progress {D : Type 0} (Serves : D → Tick → Message → Answer → D → Type 0) (old new : Cursor D) : Type 0 where
@@ -73,7 +73,7 @@ pub record Progress {D : Type 0} (Serves : D → Tick → Message → Answer →
   pub chain : Chain old.left messages new.left
   pub told : Adds old.told ticks new.told
   pub taken : Adds old.taken written new.taken
-  pub runs : Runs Serves old.desk ticks (map whole messages) written new.desk
+  pub runs : Runs Serves old.handler ticks (map whole messages) written new.handler
 
 -- the messages were answered, in order, and nothing else was written
 pub record Finished {D : Type 0} (Serves : D → Tick → Message → Answer → D → Type 0) (IsOf : List Item → Type 0) (old new : Cursor D) : Type 0 where
@@ -83,7 +83,7 @@ pub record Finished {D : Type 0} (Serves : D → Tick → Message → Answer →
   pub all : IsOf items
   pub told : Adds old.told ticks new.told
   pub taken : Adds old.taken written new.taken
-  pub runs : Runs Serves old.desk ticks items written new.desk
+  pub runs : Runs Serves old.handler ticks items written new.handler
 
 -- an item more was acted on, and the front of its text was written
 pub record CutOff {D : Type 0} (Serves : D → Tick → Message → Answer → D → Type 0) (old new : Cursor D) : Type 0 where
@@ -94,7 +94,7 @@ pub record CutOff {D : Type 0} (Serves : D → Tick → Message → Answer → D
   pub next : IsNext old.left item
   pub told : Adds old.told ticks new.told
   pub taken : Adds old.taken part new.taken
-  pub runs : Runs Serves old.desk ticks (item ∷ []) (part ++ rest) new.desk
+  pub runs : Runs Serves old.handler ticks (item ∷ []) (part ++ rest) new.handler
 
 -- what one call of a reader gives: some bytes, at most 65,536
 abbrev pub IsReadBuffer : List ℕ → Type 0
@@ -108,7 +108,7 @@ LosesRead bytes = (waiting : List ℕ) × (input : List ℕ) × (bytes ≡ waiti
 pub record Stopped {D : Type 0} (old new : Cursor D) : Type 0 where
   pub told : Adds old.told [] new.told
   pub taken : Adds old.taken [] new.taken
-  pub desk : new.desk ≡ old.desk
+  pub handler : new.handler ≡ old.handler
 
 -- Where a run breaks off, behind the messages that were answered whole: where the writer fails, within the text of the next
 -- one; where the clock fails, before the next one, which is there; where the reader fails or its limit is met, once no message
@@ -152,17 +152,17 @@ pub record Devices (D : Type 0) : Type 0 where
   pub left : Option (List ℕ)
   pub calls : ℕ
   pub told : Option (List Tick)
-  pub desk : D
+  pub handler : D
   pub taken : Option (List ℕ)
 
 -- where this reader, this clock, this desk and this writer stand
 abbrev pub devices_at : {R T D W : Type 0} → source.Ghosts R → clock.Ghosts T → drain.Ghosts W → R → T → D → W → Devices D
-devices_at r t w reader ticks desk writer =
-    record { left = r.left reader; calls = r.calls reader; told = t.told ticks; desk = desk; taken = w.taken writer }
+devices_at r t w reader ticks handler writer =
+    record { left = r.left reader; calls = r.calls reader; told = t.told ticks; handler = handler; taken = w.taken writer }
 
 -- the devices with another desk among them
-abbrev pub with_desk : {D E : Type 0} → Devices D → E → Devices E
-with_desk devices desk = record { left = devices.left; calls = devices.calls; told = devices.told; desk = desk; taken = devices.taken }
+abbrev pub with_handler : {D E : Type 0} → Devices D → E → Devices E
+with_handler devices handler = record { left = devices.left; calls = devices.calls; told = devices.told; handler = handler; taken = devices.taken }
 
 -- how many of the calls of the reader gave nothing: the last one, where the run comes to the end or the reader fails
 abbrev pub idle_reads : Result (Unit {0}) Failure → ℕ
@@ -180,7 +180,7 @@ pub record RunLeads {D : Type 0} (Serves : D → Tick → Message → Answer →
   pub bytes : List ℕ
   pub given : Gives old.left bytes new.left
   pub pieces : InPieces bytes (new.calls - old.calls) (idle_reads result)
-  pub streams : Streams Serves new.left (cursor bytes old.told old.desk old.taken) (cursor [] new.told new.desk new.taken) result
+  pub streams : Streams Serves new.left (cursor bytes old.told old.handler old.taken) (cursor [] new.told new.handler new.taken) result
 
 -- a failure was counted where it is the clock's or the writer's, and no other one
 abbrev pub Counted : {A : Type 0} → Result A Failure → ℕ → ℕ → ℕ → ℕ → Type 0

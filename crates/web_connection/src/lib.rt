@@ -1,14 +1,14 @@
 //! What is written for the bytes of a connection, whoever answers its messages?
 #![tactic(auto)]
 
-pub mod desk;
+pub mod handler;
 pub mod failure;
 pub mod laws;
 pub mod buffers;
 pub mod run;
 pub mod step;
 
-pub use desk::Desk;
+pub use handler::Handler;
 pub use failure::Failure;
 pub use buffers::{ReadBuffer, Buffers, blank};
-pub use run::{run_stream, serve_desk};
+pub use run::{run_stream, serve_handler};

@@ -4,7 +4,7 @@ ghost use Rattle.std.specs.Prelude.{◌≡◌, ◌+◌, []};
 ghost use Rattle.web_connection.specs.Run.{AtTick, CountedIn, IsReadBuffer, TakesIn};
 ghost use Rattle.web_connection.specs.Outside.{RunsFrom, RunsOver, outside};
 
-use crate::desk::Desk;
+use crate::handler::Handler;
 use crate::failure::Failure;
 use crate::buffers::Buffers;
 use crate::step::serve_ready;
@@ -37,22 +37,22 @@ fn take_in<R: Source>(
 }
 
 /// Reads to the end, and answers each message.
-fn serve_all<R: Source, T: Ticks, D: Desk, W: Drain>(
+fn serve_all<R: Source, T: Ticks, D: Handler, W: Drain>(
     alloc: Global,
     buffers: &mut Buffers,
     reader: &mut R,
     ticks: &mut T,
-    desk: &mut D,
+    handler: &mut D,
     writer: &mut W,
 ) -> Result<(), Failure>
     requires { buffers.old.frames.left ≡ [] }
-    ensures { RunsOver (AtTick T.reads D.serves) desk.old desk.new
+    ensures { RunsOver (AtTick T.reads D.serves) handler.old handler.new
         (outside R.Source T.Ticks W.Drain reader.old ticks.old writer.old)
         (outside R.Source T.Ticks W.Drain reader.new ticks.new writer.new) result }
 {
     let Buffers { frames, input } = buffers;
     for turn in 0..1_000_000u32 {
-        match serve_ready(alloc, frames, ticks, desk, writer) {
+        match serve_ready(alloc, frames, ticks, handler, writer) {
             Ok(true) => {}
             Ok(false) => return Ok(()),
             Err(failure) => return Err(failure),
@@ -63,7 +63,7 @@ fn serve_all<R: Source, T: Ticks, D: Desk, W: Drain>(
             Err(failure) => return Err(failure),
         }
     }
-    match serve_ready(alloc, frames, ticks, desk, writer) {
+    match serve_ready(alloc, frames, ticks, handler, writer) {
         Ok(true) => Err(Failure::Limit),
         Ok(false) => Ok(()),
         Err(failure) => Err(failure),
@@ -74,37 +74,37 @@ fn serve_all<R: Source, T: Ticks, D: Desk, W: Drain>(
 /// else. It reads at most 1,000,000 times, at most 65,536 bytes a time. Where it fails, what was written is the front of
 /// that text: faults 6 (there was no memory for what is read), 82 (the reader failed, or its limit is met), 83 (the writer
 /// failed), 85 (the clock failed). What the room held before makes no difference.
-pub fn run_stream<R: Source, T: Ticks, D: Desk, W: Drain>(
+pub fn run_stream<R: Source, T: Ticks, D: Handler, W: Drain>(
     alloc: Global,
     buffers: &mut Buffers,
     reader: &mut R,
     ticks: &mut T,
-    desk: &mut D,
+    handler: &mut D,
     writer: &mut W,
 ) -> Result<(), Failure>
-    ensures { RunsOver (AtTick T.reads D.serves) desk.old desk.new
+    ensures { RunsOver (AtTick T.reads D.serves) handler.old handler.new
         (outside R.Source T.Ticks W.Drain reader.old ticks.old writer.old)
         (outside R.Source T.Ticks W.Drain reader.new ticks.new writer.new) result }
 {
     buffers.frames.clear();
-    serve_all(alloc, buffers, reader, ticks, desk, writer)
+    serve_all(alloc, buffers, reader, ticks, handler, writer)
 }
 
 /// Answers a stream of requests at a desk that is there for it alone.
-pub fn serve_desk<R: Source, T: Ticks, D: Desk + Drop, W: Drain>(
+pub fn serve_handler<R: Source, T: Ticks, D: Handler + Drop, W: Drain>(
     alloc: Global,
     reader: &mut R,
     ticks: &mut T,
-    desk: D,
+    handler: D,
     writer: &mut W,
 ) -> Result<(), Failure>
-    ensures { RunsFrom (AtTick T.reads D.serves) desk
+    ensures { RunsFrom (AtTick T.reads D.serves) handler
         (outside R.Source T.Ticks W.Drain reader.old ticks.old writer.old)
         (outside R.Source T.Ticks W.Drain reader.new ticks.new writer.new) result }
 {
-    let mut desk = desk;
+    let mut handler = handler;
     let Ok(mut buffers) = Buffers::new(alloc) else {
         return Err(Failure::Memory);
     };
-    run_stream(alloc, &mut buffers, reader, ticks, &mut desk, writer)
+    run_stream(alloc, &mut buffers, reader, ticks, &mut handler, writer)
 }

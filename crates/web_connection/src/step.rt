@@ -2,7 +2,7 @@
 
 ghost use Rattle.web_connection.specs.Run.{AtTick, Steps, ServesReady, Counted, cursor};
 
-use crate::desk::Desk;
+use crate::handler::Handler;
 use crate::failure::{Failure, Step};
 use base_devices::device::{Drain, Ticks};
 use std::alloc::Global;
@@ -10,16 +10,16 @@ use web_http::frames::Frames;
 use web_http::write::{write_answer, write_fault};
 
 /// Takes the first message, if it is whole, and answers it.
-pub fn step<T: Ticks, D: Desk, W: Drain>(
+pub fn step<T: Ticks, D: Handler, W: Drain>(
     alloc: Global,
     frames: &mut Frames,
     ticks: &mut T,
-    desk: &mut D,
+    handler: &mut D,
     writer: &mut W,
 ) -> Result<Step, Failure>
     ensures leads { Steps (AtTick T.reads D.serves)
-        (cursor frames.old.left (T.told ticks.old) desk.old (W.taken writer.old))
-        (cursor frames.new.left (T.told ticks.new) desk.new (W.taken writer.new)) result }
+        (cursor frames.old.left (T.told ticks.old) handler.old (W.taken writer.old))
+        (cursor frames.new.left (T.told ticks.new) handler.new (W.taken writer.new)) result }
     ensures counted { Counted result (T.failures ticks.old) (T.failures ticks.new)
         (W.failures writer.old) (W.failures writer.new) }
 {
@@ -37,7 +37,7 @@ pub fn step<T: Ticks, D: Desk, W: Drain>(
             let Ok(tick) = ticks.tick() else {
                 return Err(Failure::Clock);
             };
-            let answer = desk.serve(alloc, tick, &frame);
+            let answer = handler.serve(alloc, tick, &frame);
             match write_answer(writer, &answer, closes) {
                 Ok(()) => Ok(if closes { Step::Ends } else { Step::Goes }),
                 Err(_) => Err(Failure::Output),
@@ -47,21 +47,21 @@ pub fn step<T: Ticks, D: Desk, W: Drain>(
 }
 
 /// Answers each message that is whole. Whether the connection goes on.
-pub fn serve_ready<T: Ticks, D: Desk, W: Drain>(
+pub fn serve_ready<T: Ticks, D: Handler, W: Drain>(
     alloc: Global,
     frames: &mut Frames,
     ticks: &mut T,
-    desk: &mut D,
+    handler: &mut D,
     writer: &mut W,
 ) -> Result<bool, Failure>
     ensures leads { ServesReady (AtTick T.reads D.serves)
-        (cursor frames.old.left (T.told ticks.old) desk.old (W.taken writer.old))
-        (cursor frames.new.left (T.told ticks.new) desk.new (W.taken writer.new)) result }
+        (cursor frames.old.left (T.told ticks.old) handler.old (W.taken writer.old))
+        (cursor frames.new.left (T.told ticks.new) handler.new (W.taken writer.new)) result }
     ensures counted { Counted result (T.failures ticks.old) (T.failures ticks.new)
         (W.failures writer.old) (W.failures writer.new) }
 {
     loop {
-        match step(alloc, frames, ticks, desk, writer) {
+        match step(alloc, frames, ticks, handler, writer) {
             Ok(Step::Waits) => return Ok(true),
             Ok(Step::Ends) => return Ok(false),
             Ok(Step::Goes) => {}

@@ -242,8 +242,8 @@ module _ {D : Type 0} (Serves : D → Tick → Message → Answer → D → Type
       → (turn : Turn Serves mid to (slice_index_or all.lasts number nobody) state)
       → Connections Serves came from to (history all.firsts (slice_set all.lasts number state) (all.heard ++ heard_by number turn.acts))
   connections_turn came from mid to all number state lt connections turn = record {
-    acted = subst (λ (os : List Act). Acts Serves from.desk os to.desk) (sym whole)
-        (Acts-append Serves from.desk mid.desk to.desk (acts_of all.heard) turn.acts connections.acted turn.acted);
+    acted = subst (λ (os : List Act). Acts Serves from.handler os to.handler) (sym whole)
+        (Acts-append Serves from.handler mid.handler to.handler (acts_of all.heard) turn.acts connections.acted turn.acted);
     told = subst (λ (os : List Act). Adds from.told (ticks os) to.told) (sym whole)
         (subst (λ (ts : List Tick). Adds from.told ts to.told) (sym (ticks-append (acts_of all.heard) turn.acts))
         (Adds-append from.told mid.told to.told (ticks (acts_of all.heard)) (ticks turn.acts) connections.told turn.told));

@@ -60,12 +60,12 @@ module _ {D : Type 0} (Serves : D → Tick → Message → Answer → D → Type
   -- a relation of two places is one of the acts between them, and the same relation at the recording desk
   abbrev pub Recorded : Cursor D → Cursor D → List ℕ → List ℕ → (Cursor (List Act) → Cursor (List Act) → Type 0) → Type 0
   Recorded p q b a Rel =
-      (acts : List Act) × Acts Serves p.desk acts q.desk × Adds p.told (ticks acts) q.told
+      (acts : List Act) × Acts Serves p.handler acts q.handler × Adds p.told (ticks acts) q.told
       × ((own : List Act) (text : List ℕ) → Rel (acts_recorded p.left own (text ++ b)) (acts_recorded q.left (own ++ acts) (text ++ a)))
 
   progress_recorded : (p q : Cursor D) (b a : List ℕ) → p.taken ≡ Some b → q.taken ≡ Some a → Progress Serves p q → Recorded p q b a (Progress Records)
   progress_recorded p q b a is-b is-a x =
-      let r = record_run p.desk q.desk x.ticks (map whole x.messages) x.written x.runs in
+      let r = record_run p.handler q.handler x.ticks (map whole x.messages) x.written x.runs in
       let taken = subst₂ (λ (s t : Option (List ℕ)). Adds s x.written t) is-b is-a x.taken in (
         r.0,
         r.1,
@@ -83,7 +83,7 @@ module _ {D : Type 0} (Serves : D → Tick → Message → Answer → D → Type
 
   finished_recorded : (IsOf : List Item → Type 0) (p q : Cursor D) (b a : List ℕ) → p.taken ≡ Some b → q.taken ≡ Some a → Finished Serves IsOf p q → Recorded p q b a (Finished Records IsOf)
   finished_recorded IsOf p q b a is-b is-a x =
-      let r = record_run p.desk q.desk x.ticks x.items x.written x.runs in
+      let r = record_run p.handler q.handler x.ticks x.items x.written x.runs in
       let taken = subst₂ (λ (s t : Option (List ℕ)). Adds s x.written t) is-b is-a x.taken in (
         r.0,
         r.1,
@@ -101,7 +101,7 @@ module _ {D : Type 0} (Serves : D → Tick → Message → Answer → D → Type
 
   cut_recorded : (p q : Cursor D) (b a : List ℕ) → p.taken ≡ Some b → q.taken ≡ Some a → CutOff Serves p q → Recorded p q b a (CutOff Records)
   cut_recorded p q b a is-b is-a x =
-      let r = record_run p.desk q.desk x.ticks (x.item ∷ []) (x.part ++ x.rest) x.runs in
+      let r = record_run p.handler q.handler x.ticks (x.item ∷ []) (x.part ++ x.rest) x.runs in
       let taken = subst₂ (λ (s t : Option (List ℕ)). Adds s x.part t) is-b is-a x.taken in (
         r.0,
         r.1,
@@ -122,9 +122,9 @@ module _ {D : Type 0} (Serves : D → Tick → Message → Answer → D → Type
   stopped_recorded p q b a is-b is-a x =
       let taken = subst₂ (λ (s t : Option (List ℕ)). Adds s [] t) is-b is-a x.taken in (
         [],
-        x.desk,
+        x.handler,
         x.told,
-        λ own text. record { told = told_own own [] [] refl; taken = added_on text b [] a taken; desk = append-nil own },
+        λ own text. record { told = told_own own [] [] refl; taken = added_on text b [] a taken; handler = append-nil own },
       )
 
   breaks_recorded : (e : Failure) (p q : Cursor D) (b a : List ℕ) → p.taken ≡ Some b → q.taken ≡ Some a → BreaksOff Serves e p q → Recorded p q b a (BreaksOff Records e)
@@ -142,7 +142,7 @@ module _ {D : Type 0} (Serves : D → Tick → Message → Answer → D → Type
       let r = progress_recorded p mid b (b ++ w) is-b is-m x.before in
       let s = breaks_recorded e mid q (b ++ w) a is-m is-a x.last in (
         r.0 ++ s.0,
-        Acts-append p.desk mid.desk q.desk r.0 s.0 r.1 s.1,
+        Acts-append p.handler mid.handler q.handler r.0 s.0 r.1 s.1,
         subst (λ (ts : List Tick). Adds p.told ts q.told) (sym (ticks-append r.0 s.0)) (Adds-append p.told mid.told q.told (ticks r.0) (ticks s.0) r.2 s.2),
         λ own text. record {
           mid = acts_recorded mid.left (own ++ r.0) (text ++ (b ++ w));

@@ -30,7 +30,7 @@ module _ {D : Type 0} (Serves : D → Tick → Message → Answer → D → Type
     all = on y.all;
     told = Adds-append p.told q.told r.told x.ticks y.ticks x.told y.told;
     taken = Adds-append p.taken q.taken r.taken x.written y.written x.taken y.taken;
-    runs = Runs-append Serves p.desk q.desk r.desk x.ticks y.ticks x.messages y.items x.written y.written x.runs y.runs;
+    runs = Runs-append Serves p.handler q.handler r.handler x.ticks y.ticks x.messages y.items x.written y.written x.runs y.runs;
   }
     where
       on : AreAll q.left after y.items → AreAll p.left after (map whole x.messages ++ y.items)
@@ -155,7 +155,7 @@ module _ {D : Type 0} (Serves : D → Tick → Message → Answer → D → Type
   pub turn_more : (from mid to : Between D) (a b c : ConnectionState) → Turn Serves from mid a b → Turn Serves mid to b c → Turn Serves from to a c
   turn_more from mid to a b c x y = record {
     acts = x.acts ++ y.acts;
-    acted = Acts-append Serves from.desk mid.desk to.desk x.acts y.acts x.acted y.acted;
+    acted = Acts-append Serves from.handler mid.handler to.handler x.acts y.acts x.acted y.acted;
     told = subst (λ (ts : List Tick). Adds from.told ts to.told) (sym (ticks-append x.acts y.acts)) (Adds-append from.told mid.told to.told (ticks x.acts) (ticks y.acts) x.told y.told);
     exchanges = λ first own connection. subst (λ (os : List Act). Exchanges first os c) (append_assoc own x.acts y.acts) (y.exchanges first (own ++ x.acts) (x.exchanges first own connection));
   }
@@ -163,8 +163,8 @@ module _ {D : Type 0} (Serves : D → Tick → Message → Answer → D → Type
   -- a message was answered, or none was there
   pub turn_reply : (from to : Between D) (old new : ConnectionState) → old.phase ≡ phases.Goes → old.unsent ≡ [] → Replies Serves from to [] new.unsent old new → Turn Serves from to old new
   turn_reply from to old new was none replies =
-      let p = cursor old.left from.told from.desk (Some []) in
-      let q = cursor new.left to.told to.desk (Some new.unsent) in
+      let p = cursor old.left from.told from.handler (Some []) in
+      let q = cursor new.left to.told to.handler (Some new.unsent) in
       let r = went_recorded Serves new.coming new.phase p q [] new.unsent refl refl replies.went in record {
         acts = r.0;
         acted = r.1;

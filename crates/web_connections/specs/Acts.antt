@@ -30,12 +30,12 @@ Records old t m answer new = new ≡ old ++ record { tick = t; message = m; answ
 -- how far a house is: the ticks that it was given, where that is known, and its desk
 pub record Between (D : Type 0) : Type 0 where
   pub told : Option (List Tick)
-  pub desk : D
+  pub handler : D
 
 -- a desk, and the ticks that the house was given till then, where that is known
 abbrev pub between : {D : Type 0} → Option (List Tick) → D → Between D
-between told desk = record { told = told; desk = desk }
+between told handler = record { told = told; handler = handler }
 
 -- the ticks that the house was given till then, with another desk
 abbrev pub seen_at : {D E : Type 0} → Between D → E → Between E
-seen_at slot desk = between slot.told desk
+seen_at slot handler = between slot.told handler

@@ -172,7 +172,7 @@ history firsts lasts heard = record { firsts = firsts; lasts = lasts; heard = he
 -- a caller among them. Each caller's conversation is the acts that are for it: they are those of its own bytes, in order, and what it was
 -- sent is the front of their texts.
 pub record Connections {D : Type 0} (Serves : D → Tick → Message → Answer → D → Type 0) (came : ℕ) (from to : Between D) (all : History) : Type 0 where
-  pub acted : Acts Serves from.desk (acts_of all.heard) to.desk
+  pub acted : Acts Serves from.handler (acts_of all.heard) to.handler
   pub told : Adds from.told (ticks (acts_of all.heard)) to.told
   pub are : AreOf came all.heard
   pub firsts : length all.firsts ≡ came

@@ -6,8 +6,8 @@ use Rattle.web_connections.specs.Acts.{Between, between}
 
 -- the desk of a context, and the ticks that its clock gave till then, where that is known
 abbrev pub between_at : {L M T D : Type 0} → clock.Ghosts T → Context L M T D → Between D
-between_at t context = between (t.told context.ticks.now) context.desk.now
+between_at t context = between (t.told context.ticks.now) context.handler.now
 
 -- A context keeps the clock and the desk that it was lent: what becomes of them within becomes of them without.
 abbrev pub KeepsLent : {L M T D : Type 0} → Context L M T D → Context L M T D → Type 0
-KeepsLent old new = (new.ticks.ghost_name ≡ old.ticks.ghost_name) × (new.desk.ghost_name ≡ old.desk.ghost_name)
+KeepsLent old new = (new.ticks.ghost_name ≡ old.ticks.ghost_name) × (new.handler.ghost_name ≡ old.handler.ghost_name)

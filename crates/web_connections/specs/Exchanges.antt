@@ -64,7 +64,7 @@ pub record Exchanges (first : ConnectionState) (own : List Act) (now : Connectio
 -- Where another message may be there, the first one that is whole is answered at a desk, whose page has this text before and that one behind; nothing
 -- is read or sent meanwhile. Where it goes on it took some of the bytes.
 pub record Replies {D : Type 0} (Serves : D → Tick → Message → Answer → D → Type 0) (from to : Between D) (before behind : List ℕ) (old new : ConnectionState) : Type 0 where
-  pub went : Went Serves new.coming new.phase (cursor old.left from.told from.desk (Some before)) (cursor new.left to.told to.desk (Some behind))
+  pub went : Went Serves new.coming new.phase (cursor old.left from.told from.handler (Some before)) (cursor new.left to.told to.handler (Some behind))
   pub coming : new.coming ≡ old.coming
   pub gone : new.gone ≡ old.gone
   pub takes : new.phase ≡ phases.Goes → length new.left < length old.left
@@ -76,7 +76,7 @@ Moves old new = (first : ConnectionState) (own : List Act) → Exchanges first o
 -- A turn: some acts, and whatever conversation it was in goes on with them.
 pub record Turn {D : Type 0} (Serves : D → Tick → Message → Answer → D → Type 0) (from to : Between D) (old new : ConnectionState) : Type 0 where
   pub acts : List Act
-  pub acted : Acts Serves from.desk acts to.desk
+  pub acted : Acts Serves from.handler acts to.handler
   pub told : Adds from.told (ticks acts) to.told
   pub exchanges : (first : ConnectionState) (own : List Act) → Exchanges first own old → Exchanges first (own ++ acts) new
 

@@ -16,7 +16,7 @@ use std::mem;
 use std::sync::ledger::Ledger;
 use web_connection::failure::Step;
 use web_connection::step::step;
-use web_connection::{Desk, ReadBuffer};
+use web_connection::{Handler, ReadBuffer};
 use web_http::frames::Frames;
 use web_sockets::{Awaited, Came, Ends};
 
@@ -140,7 +140,7 @@ impl<E: Ends> Connection<E> {
     }
 
     // Answers the first message that is whole, on a page.
-    fn take_step<L: Ledger, M: Ledger, T: Ticks, D: Desk>(
+    fn take_step<L: Ledger, M: Ledger, T: Ticks, D: Handler>(
         &mut self,
         context: &mut Context<'_, L, M, T, D>,
     )
@@ -155,7 +155,7 @@ impl<E: Ends> Connection<E> {
             context.alloc,
             &mut self.frames,
             context.ticks,
-            context.desk,
+            context.handler,
             context.out,
         ) {
             Ok(Step::Waits) => self.phase = Phase::Waits,
@@ -166,7 +166,7 @@ impl<E: Ends> Connection<E> {
     }
 
     // Answers the first message that is whole.
-    fn reply<L: Ledger, M: Ledger, T: Ticks, D: Desk>(
+    fn reply<L: Ledger, M: Ledger, T: Ticks, D: Handler>(
         &mut self,
         context: &mut Context<'_, L, M, T, D>,
     )
@@ -195,7 +195,7 @@ impl<E: Ends> Connection<E> {
     }
 
     // Answers the first message that is whole where one may be there.
-    fn reply_on<L: Ledger, M: Ledger, T: Ticks, D: Desk>(
+    fn reply_on<L: Ledger, M: Ledger, T: Ticks, D: Handler>(
         &mut self,
         context: &mut Context<'_, L, M, T, D>,
     )
@@ -213,7 +213,7 @@ impl<E: Ends> Connection<E> {
     }
 
     // Sends what is left of an answer; where nothing is left, it reads once, answers one message, and sends what is taken of its answer.
-    fn go_on<L: Ledger, M: Ledger, T: Ticks, D: Desk>(
+    fn go_on<L: Ledger, M: Ledger, T: Ticks, D: Handler>(
         &mut self,
         context: &mut Context<'_, L, M, T, D>,
     ) -> Result<(), Refused>
@@ -255,7 +255,7 @@ impl<E: Ends> Connection<E> {
     /// A turn, with a piece to read into and a page to write an answer on: what is left of an answer is sent; where nothing is left, it
     /// reads once, answers one message, and sends what is taken of its answer. Then it waits for what it needs. Where that fails, or the
     /// sending, it won't be brought more.
-    pub fn turn<L: Ledger, M: Ledger, T: Ticks, D: Desk>(
+    pub fn turn<L: Ledger, M: Ledger, T: Ticks, D: Handler>(
         &mut self,
         context: &mut Context<'_, L, M, T, D>,
     ) -> Result<(), Refused>

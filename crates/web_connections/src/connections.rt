@@ -13,7 +13,7 @@ use base_devices::{Refused, Ticks};
 use std::alloc::{AllocError, Global};
 use std::marker::Model;
 use std::sync::ledger::Ledger;
-use web_connection::Desk;
+use web_connection::Handler;
 use web_sockets::Ends;
 
 /// The callers of a house, each at its place. A place that is left is taken again by a later caller, who has a number of its own.
@@ -133,7 +133,7 @@ impl<E: Ends> Connections<E> {
     }
 
     /// A turn of whoever is at a place.
-    pub fn turn<L: Ledger, M: Ledger, T: Ticks, D: Desk>(
+    pub fn turn<L: Ledger, M: Ledger, T: Ticks, D: Handler>(
         &mut self,
         slot: usize,
         context: &mut Context<'_, L, M, T, D>,

@@ -20,7 +20,7 @@ pub struct Context<'a, L: Ledger, M: Ledger, T, D> {
     /// The ticks of a clock.
     pub ticks: &'a mut T,
     /// Who answers.
-    pub desk: &'a mut D,
+    pub handler: &'a mut D,
 }
 
 impl<'a, L: Ledger, M: Ledger, T, D> Context<'a, L, M, T, D> {
@@ -30,12 +30,12 @@ impl<'a, L: Ledger, M: Ledger, T, D> Context<'a, L, M, T, D> {
         input: &'a mut ReadBuffer,
         out: &'a mut Device<Vec<u8>, L, M>,
         ticks: &'a mut T,
-        desk: &'a mut D,
+        handler: &'a mut D,
     ) -> Context<'a, L, M, T, D>
         ensures same_ticks { result.ticks.ghost_name ≡ ticks.entry.ghost_name }
-        ensures same_desk { result.desk.ghost_name ≡ desk.entry.ghost_name }
+        ensures same_handler { result.handler.ghost_name ≡ handler.entry.ghost_name }
         ensures ticks { result.ticks.now ≡ ticks.old }
-        ensures desk { result.desk.now ≡ desk.old }
+        ensures handler { result.handler.now ≡ handler.old }
         ensures out { result.out.now ≡ out.old }
     {
         Context {
@@ -43,7 +43,7 @@ impl<'a, L: Ledger, M: Ledger, T, D> Context<'a, L, M, T, D> {
             input,
             out,
             ticks,
-            desk,
+            handler,
         }
     }
 }

@@ -13,7 +13,7 @@ use base_devices::{Refused, Ticks};
 use std::alloc::{AllocError, Global};
 use std::marker::Model;
 use std::sync::ledger::Ledger;
-use web_connection::Desk;
+use web_connection::Handler;
 use web_http::frames::Frames;
 use web_sockets::Ends;
 
@@ -110,7 +110,7 @@ impl<E: Ends> Slot<E> {
     }
 
     /// A turn of whoever is here.
-    pub fn turn<L: Ledger, M: Ledger, T: Ticks, D: Desk>(
+    pub fn turn<L: Ledger, M: Ledger, T: Ticks, D: Handler>(
         &mut self,
         context: &mut Context<'_, L, M, T, D>,
     ) -> Result<(), Refused>

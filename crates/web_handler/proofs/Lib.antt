@@ -1,3 +1,3 @@
-pub mod DeskLemmas
+pub mod HandlerLemmas
 mod FedLemmas
 pub mod Streams

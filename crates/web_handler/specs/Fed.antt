@@ -6,7 +6,7 @@ use Rattle.base_devices.specs.declared.device.Drain as drain
 use Rattle.web_connection.specs.declared.failure.Failure.{Failure}
 use Rattle.web_connection.specs.declared.failure.Failure.TheVariants as failures
 use Rattle.web_connection.specs.Run.{Counts, CountedAll, Devices, RunLeads, most_reads}
-use Rattle.web_arrivals.specs.DeskView.{DeskView, Meaning}
+use Rattle.web_arrivals.specs.HandlerView.{HandlerView, Meaning}
 use Rattle.web_arrivals.specs.Served.{Serves}
 use Rattle.web_cli.specs.FeedTicks.{feed_ticks}
 
@@ -26,7 +26,7 @@ ports_at r w reader writer =
 
 -- the devices of a feed: reader and writer with the ticks that were told and the desk of the shop between them
 abbrev pub devices : {D : Type 0} → Ports → List Tick → D → Devices D
-devices ports told house = record { left = ports.left; calls = ports.calls; told = Some told; desk = house; taken = ports.taken }
+devices ports told house = record { left = ports.left; calls = ports.calls; told = Some told; handler = house; taken = ports.taken }
 
 -- what they have counted, and how many ticks failed
 abbrev pub counts : Ports → ℕ → Counts
@@ -39,10 +39,10 @@ EndsTicks count _ = ⊤
 
 -- What is read, what is written, and how it ends, over any tables: a run from this desk with the first ticks, one for each whole
 -- request. It ends with the failure of the reader, the writer or the ticks only where that one failed, and no other one did.
-pub record FeedsDesk {T : Type 0} (tables : Meaning T) (first : DeskView T) (from step : ℕ) (old new : Ports) (result : Result (Unit {0}) Failure) : Type 0 where
+pub record FeedsHandler {T : Type 0} (tables : Meaning T) (first : HandlerView T) (from step : ℕ) (old new : Ports) (result : Result (Unit {0}) Failure) : Type 0 where
   pub count : ℕ
   pub clock : ℕ
-  pub house : DeskView T
+  pub house : HandlerView T
   pub leads : RunLeads (Serves tables) (devices old [] first) (devices new (feed_ticks from step count) house) result
   pub ends_ticks : EndsTicks count result
   pub counted : CountedAll result (counts old 0) (counts new clock)

@@ -2,8 +2,8 @@
 
 ghost use Rattle.std.specs.Prelude.{◌≡◌};
 ghost use Rattle.base_devices.specs.Blanks.{IsBlankOf};
-ghost use Rattle.web_arrivals.specs.DeskView.{desk_with, trait_meaning};
-ghost use Rattle.web_handler.specs.Fed.{FeedsDesk, ports_at};
+ghost use Rattle.web_arrivals.specs.HandlerView.{handler_with, trait_meaning};
+ghost use Rattle.web_handler.specs.Fed.{FeedsHandler, ports_at};
 
 use crate::office::serve_office;
 use base_devices::{Drain, Source};
@@ -31,8 +31,8 @@ fn feed_with<P: Pace, E: Ledger, T: Tables + Drop, B: Dues + Drop, R: Source, W:
     requires from { from ≡ P.from }
     requires step { step ≡ P.step }
     requires blank { IsBlankOf E.Ledger blank }
-    ensures { FeedsDesk (trait_meaning T.Tables)
-        (desk_with tables office.organizer office.event office.state) P.from P.step
+    ensures { FeedsHandler (trait_meaning T.Tables)
+        (handler_with tables office.organizer office.event office.state) P.from P.step
         (ports_at R.Source W.Drain reader.old writer.old)
         (ports_at R.Source W.Drain reader.new writer.new) result }
 {
@@ -59,8 +59,8 @@ pub fn feed_office<T: Tables + Drop, B: Dues + Drop, R: Source, W: Drain>(
     reader: &mut R,
     writer: &mut W,
 ) -> Result<(), Failure>
-    ensures { FeedsDesk (trait_meaning T.Tables)
-        (desk_with tables office.organizer office.event office.state) from step
+    ensures { FeedsHandler (trait_meaning T.Tables)
+        (handler_with tables office.organizer office.event office.state) from step
         (ports_at R.Source W.Drain reader.old writer.old)
         (ports_at R.Source W.Drain reader.new writer.new) result }
 {

@@ -1,12 +1,12 @@
 //! How does a shop answer each message of a connection once?
 #![tactic(auto)]
 
-pub mod desk;
+pub mod handler;
 pub mod feeding;
 pub mod office;
 mod serving;
 
-pub use desk::ShopDesk;
+pub use handler::ShopHandler;
 pub use feeding::feed_office;
 pub use office::serve_office;
 pub use office_once::Office;

@@ -1,16 +1,16 @@
 //! A stream of requests to the shop of an office.
 
 ghost use Rattle.web_connection.specs.Outside.{RunsFrom, outside};
-ghost use Rattle.web_arrivals.specs.DeskView.{desk_with, trait_meaning};
+ghost use Rattle.web_arrivals.specs.HandlerView.{handler_with, trait_meaning};
 ghost use Rattle.web_arrivals.specs.Served.{Serves};
 
-use crate::desk::ShopDesk;
+use crate::handler::ShopHandler;
 use base_devices::{Drain, Source, Ticks};
 use book_usage::Dues;
 use model_answers::Tables;
 use office_once::Office;
 use std::alloc::Global;
-use web_connection::{Failure, serve_desk};
+use web_connection::{Failure, serve_handler};
 
 /// Answers a stream of requests from the shop of an office over tables that hold it.
 pub fn serve_office<R: Source, K: Ticks, T: Tables + Drop, B: Dues + Drop, W: Drain>(
@@ -22,12 +22,12 @@ pub fn serve_office<R: Source, K: Ticks, T: Tables + Drop, B: Dues + Drop, W: Dr
     writer: &mut W,
 ) -> Result<(), Failure>
     ensures { RunsFrom (Serves (trait_meaning T.Tables))
-        (desk_with tables office.organizer office.event office.state)
+        (handler_with tables office.organizer office.event office.state)
         (outside R.Source K.Ticks W.Drain reader.old ticks.old writer.old)
         (outside R.Source K.Ticks W.Drain reader.new ticks.new writer.new) result }
 {
-    let Ok(desk) = ShopDesk::over(alloc, tables, office) else {
+    let Ok(handler) = ShopHandler::over(alloc, tables, office) else {
         return Err(Failure::Memory);
     };
-    serve_desk(alloc, reader, ticks, desk, writer)
+    serve_handler(alloc, reader, ticks, handler, writer)
 }

@@ -6,11 +6,11 @@ ghost use Rattle.web_arrivals.specs.Deliveries.{Delivery, IsAnswered, Opening, R
 ghost use Rattle.model_answers.specs.CallsLeave.{KnowsStill, MayLeaveNoMore, OfItsHouse};
 ghost use Rattle.model_answers.specs.ShopView.{ShopView};
 ghost use Rattle.web_arrivals.specs.Coming.{arrival_with, number_of};
-ghost use Rattle.web_arrivals.specs.DeskView.{trait_meaning, reply_worded};
+ghost use Rattle.web_arrivals.specs.HandlerView.{trait_meaning, reply_worded};
 ghost use Rattle.web_arrivals.specs.Seen.{HasList, HasRunning, HasShop};
 ghost use Rattle.web_arrivals.specs.Served.{ServesOnce};
 
-use crate::desk::ShopDesk;
+use crate::handler::ShopHandler;
 use base_devices::Tick;
 use base_values::{Answer, Known};
 use book_usage::Dues;
@@ -19,7 +19,7 @@ use std::alloc::Global;
 use web_arrivals::Arrival;
 use web_http::Frame;
 
-impl<T: Tables, B: Dues> ShopDesk<T, B> {
+impl<T: Tables, B: Dues> ShopHandler<T, B> {
     // The number of the token that a message shows, if it is known. Nothing changes.
     pub(crate) fn number(&mut self, frame: &Frame<'_>) -> Result<Option<u64>, TablesError>
         ensures organizer { self.new.organizer ≡ self.old.organizer }

@@ -11,7 +11,7 @@ ghost use Rattle.web_server.specs.Rounds.{AnswersCallers, between, most_of};
 use crate::clock::{ClockTicks, System};
 use crate::host::Host;
 use crate::log::Log;
-use crate::noted::Attended;
+use crate::logged::NamesCaller;
 use crate::serving::serve_callers;
 use crate::tcp_network::TcpNetwork;
 use base_devices::Drain;
@@ -23,7 +23,7 @@ use std::net::{Net, TcpListener, TcpStream};
 use std::sync::ledger::{Blank, Ledger};
 use std::time::Clock;
 use web_cli::{Console, Place, RunFault, end_said, say};
-use web_connection::Desk;
+use web_connection::Handler;
 use web_sockets::{Ends, Network};
 
 // Answers the callers of a listener by the system's clock, with a ledger for the failures of its ticks.
@@ -32,34 +32,34 @@ fn serve_network<
     R: Clock + System + Console,
     E: Ends,
     N: Network<E>,
-    D: Desk + Attended,
+    D: Handler + NamesCaller,
 >(
     host: &Host<'_, R>,
     network: &mut N,
     connections: u64,
-    desk: &mut D,
+    handler: &mut D,
     blank: Blank,
 ) -> Result<(), RunFault>
     requires blank { IsBlankOf M.Ledger blank }
     ensures listens { N.listens network.new ≡ N.listens network.old }
     ensures answers { AnswersCallers (AtTick (IsRead R.shows R.gives) D.serves)
-        (most_of connections) (between None desk.old) (between None desk.new) (N.came network.old)
+        (most_of connections) (between None handler.old) (between None handler.new) (N.came network.old)
         (N.came network.new) result }
 {
     let failures = Steps::<M>::new(blank);
     let rt = host.rt;
     let mut ticks = ClockTicks::<R, M> { rt, failures };
-    serve_callers(host, network, connections, &mut ticks, desk)
+    serve_callers(host, network, connections, &mut ticks, handler)
 }
 
 /// Listens at an address, says so, and answers the callers that come, many of them at once, by the system's clock and its draws. Faults: 81
 /// where the address can't be listened at, and then nothing is said; 83 where that couldn't be said, and then nobody is answered; 81 and 6
 /// as `serve_callers`.
-pub fn serve_at<R: Clock + System + Console, E: Ends, N: Network<E>, D: Desk + Attended, W: Drain>(
+pub fn serve_at<R: Clock + System + Console, E: Ends, N: Network<E>, D: Handler + NamesCaller, W: Drain>(
     host: &Host<'_, R>,
     network: &mut N,
     place: &Place<'_>,
-    desk: &mut D,
+    handler: &mut D,
     writer: &mut W,
 ) -> Result<(), RunFault>
     ensures said { TellsListening place.now.text.now
@@ -67,7 +67,7 @@ pub fn serve_at<R: Clock + System + Console, E: Ends, N: Network<E>, D: Desk + A
     ensures listens { OnOk result (N.listens network.new ≡ Some place.now.addr) }
     ensures leads { AnswersCallers (AtTick (IsRead R.shows R.gives) D.serves)
         (most_of place.now.connections)
-        (between None desk.old) (between None desk.new)
+        (between None handler.old) (between None handler.new)
         (N.came network.old) (N.came network.new) result }
 {
     let Ok(()) = network.listen(place.addr) else {
@@ -78,7 +78,7 @@ pub fn serve_at<R: Clock + System + Console, E: Ends, N: Network<E>, D: Desk + A
             host,
             network,
             place.connections,
-            desk,
+            handler,
             Blank::new(1),
         ),
         Err(refused) => end_said(Err(refused)),
@@ -89,21 +89,21 @@ pub fn serve_at<R: Clock + System + Console, E: Ends, N: Network<E>, D: Desk + A
 /// opened, and then nothing is said.
 pub fn serve_tcp<
     R: Net<Listener = TcpListener, Stream = TcpStream> + Clock + System + Console,
-    D: Desk + Attended,
+    D: Handler + NamesCaller,
     W: Drain,
 >(
     rt: &R,
     alloc: Global,
     log: &Log<'_, R>,
     place: &Place<'_>,
-    desk: &mut D,
+    handler: &mut D,
     writer: &mut W,
 ) -> Result<(), RunFault>
     ensures said { TellsListening place.now.text.now
         (writer_page W.Drain writer.old) (writer_page W.Drain writer.new) result }
     ensures leads { AnswersCallers (AtTick (IsRead R.shows R.gives) D.serves)
         (most_of place.now.connections)
-        (between None desk.old) (between None desk.new)
+        (between None handler.old) (between None handler.new)
         None None result }
 {
     let Ok(poll) = Poll::new(rt) else {
@@ -114,7 +114,7 @@ pub fn serve_tcp<
     };
     let host = Host::new(rt, alloc, log);
     match TcpNetwork::new(alloc, rt, poll, &registry) {
-        Ok(mut tcp_network) => serve_at(&host, &mut tcp_network, place, desk, writer),
+        Ok(mut tcp_network) => serve_at(&host, &mut tcp_network, place, handler, writer),
         Err(_) => Err(RunFault::Memory),
     }
 }

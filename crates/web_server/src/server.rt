@@ -12,14 +12,14 @@ ghost use Rattle.web_sockets.specs.Accepting.{as_begun};
 
 use crate::clock::System;
 use crate::log::{Log, Closed};
-use crate::noted::Attended;
+use crate::logged::NamesCaller;
 use crate::timeouts::{Load, Timer};
 use base_devices::Ticks;
 use std::alloc::{AllocError, Global};
 use std::sync::ledger::Ledger;
 use std::time::Clock;
 use web_cli::{Console, RunFault};
-use web_connection::Desk;
+use web_connection::Handler;
 use web_sockets::{Accepted, Ends, Event, Network};
 use web_connections::{Context, Connections, Needs};
 
@@ -322,7 +322,7 @@ impl<'a, R: Clock + System + Console, E: Ends> Server<'a, R, E> {
     }
 
     // A turn of the caller at a place.
-    fn turn<N: Network<E>, L: Ledger, M: Ledger, T: Ticks, D: Desk + Attended>(
+    fn turn<N: Network<E>, L: Ledger, M: Ledger, T: Ticks, D: Handler + NamesCaller>(
         &mut self,
         network: &mut N,
         slot: usize,
@@ -339,7 +339,7 @@ impl<'a, R: Clock + System + Console, E: Ends> Server<'a, R, E> {
             return;
         }
         let number = self.connections.number(slot);
-        context.desk.attend(number.unwrap_or(0));
+        context.handler.name_caller(number.unwrap_or(0));
         match self.connections.turn(slot, context) {
             Ok(()) => self.note(network, slot, before, now),
             Err(_) => {
@@ -350,7 +350,7 @@ impl<'a, R: Clock + System + Console, E: Ends> Server<'a, R, E> {
     }
 
     /// What happened: somebody is at the door, a caller has a turn, or a connection that ended is read.
-    pub(crate) fn hear<N: Network<E>, L: Ledger, M: Ledger, T: Ticks, D: Desk + Attended>(
+    pub(crate) fn hear<N: Network<E>, L: Ledger, M: Ledger, T: Ticks, D: Handler + NamesCaller>(
         &mut self,
         network: &mut N,
         event: Event,

@@ -13,14 +13,14 @@ ghost use Rattle.web_server.specs.Rounds.{AnswersCallers, Clears, Hosts, RoundsE
 use crate::clock::System;
 use crate::host::Host;
 use crate::server::Server;
-use crate::noted::Attended;
+use crate::logged::NamesCaller;
 use base_devices::{Device, Ticks};
 use base_values::Steps;
 use std::marker::Brand;
 use std::sync::ledger::{Blank, Ledger};
 use std::time::{Clock, Instant};
 use web_cli::{Console, RunFault};
-use web_connection::{Desk, ReadBuffer};
+use web_connection::{Handler, ReadBuffer};
 use web_sockets::{Ends, Network};
 use web_connections::Context;
 
@@ -106,7 +106,7 @@ fn hear_all<
     L: Ledger,
     M: Ledger,
     T: Ticks,
-    D: Desk + Attended,
+    D: Handler + NamesCaller,
 >(network: &mut N, server: &mut Server<'_, R, E>, context: &mut Context<'_, L, M, T, D>, now: u64)
     ensures keeps { KeepsLent context.old context.new }
     ensures listens { N.listens network.new ≡ N.listens network.old }
@@ -130,7 +130,7 @@ fn serve_round<
     L: Ledger,
     M: Ledger,
     T: Ticks,
-    D: Desk + Attended,
+    D: Handler + NamesCaller,
 >(
     watch: &mut Watch<'_, R>,
     network: &mut N,
@@ -161,7 +161,7 @@ fn serve_rounds<
     L: Ledger,
     M: Ledger,
     T: Ticks,
-    D: Desk + Attended,
+    D: Handler + NamesCaller,
 >(
     watch: &mut Watch<'_, R>,
     network: &mut N,
@@ -195,20 +195,20 @@ fn serve_with<
     L: Ledger,
     M: Ledger,
     T: Ticks,
-    D: Desk + Attended,
+    D: Handler + NamesCaller,
 >(
     host: &Host<'_, R>,
     network: &mut N,
     server: &mut Server<'_, R, E>,
     ticks: &mut T,
-    desk: &mut D,
+    handler: &mut D,
     blanks: (Blank, Blank),
 ) -> Result<(), RunFault>
     requires calls { IsBlankOf L.Ledger blanks.0 }
     requires failures { IsBlankOf M.Ledger blanks.1 }
     ensures listens { N.listens network.new ≡ N.listens network.old }
     ensures hosts { Hosts (AtTick T.reads D.serves)
-        (between (T.told ticks.old) desk.old) (between (T.told ticks.new) desk.new)
+        (between (T.told ticks.old) handler.old) (between (T.told ticks.new) handler.new)
         server.old.connections server.new.connections server.old.left server.new.left
         (N.came network.old) (N.came network.new) }
     ensures ends { RoundsEnd result server.old.connections server.new.connections }
@@ -230,7 +230,7 @@ fn serve_with<
     let Ok(mut input) = ReadBuffer::new(host.alloc) else {
         return Err(RunFault::Memory);
     };
-    let mut context = Context::new(host.alloc, &mut input, &mut out, ticks, desk);
+    let mut context = Context::new(host.alloc, &mut input, &mut out, ticks, handler);
     serve_rounds(&mut watch, network, server, &mut context)
 }
 
@@ -243,17 +243,17 @@ pub fn serve_callers<
     E: Ends,
     N: Network<E>,
     T: Ticks,
-    D: Desk + Attended,
+    D: Handler + NamesCaller,
 >(
     host: &Host<'_, R>,
     network: &mut N,
     connections: u64,
     ticks: &mut T,
-    desk: &mut D,
+    handler: &mut D,
 ) -> Result<(), RunFault>
     ensures listens { N.listens network.new ≡ N.listens network.old }
     ensures answers { AnswersCallers (AtTick T.reads D.serves) (most_of connections)
-        (between (T.told ticks.old) desk.old) (between (T.told ticks.new) desk.new)
+        (between (T.told ticks.old) handler.old) (between (T.told ticks.new) handler.new)
         (N.came network.old) (N.came network.new) result }
 {
     match Server::<R, E>::new(host.alloc, host.log, most_of(connections)) {
@@ -262,7 +262,7 @@ pub fn serve_callers<
             network,
             &mut server,
             ticks,
-            desk,
+            handler,
             (Blank::new(1), Blank::new(1)),
         ),
         Err(_) => Err(RunFault::Memory),

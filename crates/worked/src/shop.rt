@@ -5,8 +5,8 @@ use base_devices::{Drain, Source, Ticks};
 use book_usage::Dues;
 use model_answers::Tables;
 use std::alloc::Global;
-use web_connection::{Desk, Failure, Room, run_stream};
-use web_handler::{HouseWords, Office, ShopDesk};
+use web_connection::{Handler, Failure, Room, run_stream};
+use web_handler::{HouseWords, Office, ShopHandler};
 
 /// The tables of a shop that answered a case; how it ended, and what was written.
 pub(crate) struct Answered<T> {
@@ -15,11 +15,11 @@ pub(crate) struct Answered<T> {
 }
 
 /// A desk that answers a stream.
-struct AtDesk<'a, K: Desk> {
-    desk: &'a mut K,
+struct AtHandler<'a, K: Handler> {
+    handler: &'a mut K,
 }
 
-impl<K: Desk> Answers for AtDesk<'_, K> {
+impl<K: Handler> Answers for AtHandler<'_, K> {
     fn answer<R: Source, T: Ticks, W: Drain>(
         &mut self,
         alloc: Global,
@@ -30,15 +30,15 @@ impl<K: Desk> Answers for AtDesk<'_, K> {
         let Ok(mut room) = Room::new(alloc) else {
             return Err(Failure::Memory);
         };
-        run_stream(alloc, &mut room, reader, ticks, self.desk, writer)
+        run_stream(alloc, &mut room, reader, ticks, self.handler, writer)
     }
 }
 
 // How a case ends and what is written, where this desk answers it.
-fn answer_at<K: Desk>(alloc: Global, case: &[u8], desk: &mut K) -> anyhow::Result<Vec<u8>> {
-    let mut at = AtDesk { desk };
+fn answer_at<K: Handler>(alloc: Global, case: &[u8], handler: &mut K) -> anyhow::Result<Vec<u8>> {
+    let mut at = AtHandler { handler };
     let told = answer_case(alloc, case, WHOLE, &mut at);
-    let AtDesk { desk: _ } = at;
+    let AtHandler { handler: _ } = at;
     told
 }
 
@@ -46,11 +46,11 @@ fn answer_at<K: Desk>(alloc: Global, case: &[u8], desk: &mut K) -> anyhow::Resul
 fn answer_shop<T: Tables + Drop, B: Dues + Drop>(
     alloc: Global,
     case: &[u8],
-    mut desk: ShopDesk<T, B>,
+    mut handler: ShopHandler<T, B>,
 ) -> Answered<T> {
-    let told = answer_at(alloc, case, &mut desk);
+    let told = answer_at(alloc, case, &mut handler);
     Answered {
-        tables: desk.into_tables(),
+        tables: handler.into_tables(),
         told,
     }
 }
@@ -70,7 +70,7 @@ pub(crate) fn answer_opened<T: Tables + Drop, B: Dues + Drop>(
     match HouseWords::new(alloc, opened.1.organizer(), opened.1.event()) {
         Ok(words) => {
             let (tables, office) = opened;
-            answer_shop(alloc, case, ShopDesk::with_words(tables, office, words))
+            answer_shop(alloc, case, ShopHandler::with_words(tables, office, words))
         }
         Err(error) => Answered {
             tables: tables_of(opened),

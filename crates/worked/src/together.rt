@@ -13,20 +13,20 @@ use std::fs;
 use std::marker::Brand;
 use std::sync::ledger::{Blank, Ledger};
 use tests_callers::{Houses, Next, Party, TogetherError, together_told};
-use web_connection::Desk;
-use web_handler::{Office, ShopDesk};
+use web_connection::Handler;
+use web_handler::{Office, ShopHandler};
 
 /// What makes a shop in SQLite's memory, each time anew.
 #[derive(Clone, Copy)]
 struct NewShops;
 
 // What callers are told at a desk, with a ledger for the failures of the clock.
-fn serve_with<M: Ledger, K: Desk>(
+fn serve_with<M: Ledger, K: Handler>(
     alloc: Global,
     party: &Party<'_>,
     order: &[Next],
     moments: &[Moment],
-    desk: &mut K,
+    handler: &mut K,
     blank: Blank,
 ) -> Result<Vec<Vec<u8>>, TogetherError>
     requires { IsBlankOf M.Ledger blank }
@@ -36,20 +36,20 @@ fn serve_with<M: Ledger, K: Desk>(
         told: 0,
         failures: Steps::<M>::new(blank),
     };
-    party.serve(alloc, order, &mut ticks, desk)
+    party.serve(alloc, order, &mut ticks, handler)
 }
 
 // What callers are told at a desk.
-fn serve_at<K: Desk>(
+fn serve_at<K: Handler>(
     alloc: Global,
     party: &Party<'_>,
     order: &[Next],
-    desk: &mut K,
+    handler: &mut K,
 ) -> Result<Vec<Vec<u8>>, TogetherError> {
     let Ok((moments, _)) = moments(alloc, party.moments()) else {
         return Err(TogetherError::Unread);
     };
-    serve_with::<Brand, K>(alloc, party, order, moments.as_slice(), desk, Blank::new(1))
+    serve_with::<Brand, K>(alloc, party, order, moments.as_slice(), handler, Blank::new(1))
 }
 
 // What callers are told by the shop of an office, over the tables that were opened with it.
@@ -60,8 +60,8 @@ fn serve_shop<T: Tables + Drop, B: Dues + Drop>(
     opened: (T, Office<B>),
 ) -> Result<Vec<Vec<u8>>, TogetherError> {
     let (tables, office) = opened;
-    let mut desk = ShopDesk::over(alloc, tables, office)?;
-    serve_at(alloc, party, order, &mut desk)
+    let mut handler = ShopHandler::over(alloc, tables, office)?;
+    serve_at(alloc, party, order, &mut handler)
 }
 
 impl Houses for NewShops {

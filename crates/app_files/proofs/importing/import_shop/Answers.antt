@@ -1,10 +1,10 @@
 use Rattle.std.proofs.Common.{inl, inr}
-use Rattle.app_files.specs.Served.{desk_of}
+use Rattle.app_files.specs.Served.{handler_of}
 use Rattle.app_files.proofs.importing.import_shop.Goals as goal
 
 pub returns-in-Ok : goal.returns-in-Ok
 returns-in-Ok g c =
-    inl (record { desk = desk_of c.in-Ok.opened; opens = c.in-Ok.ensures.opens; adds = c.import_opened.ensures })
+    inl (record { handler = handler_of c.in-Ok.opened; opens = c.in-Ok.ensures.opens; adds = c.import_opened.ensures })
 
 pub returns-in-Err : goal.returns-in-Err
 returns-in-Err g c = inr c.in-Err.ensures.stays

@@ -17,8 +17,8 @@ returns g c = λ house begun r es most before after left outcome on found served
     let x = c.a_history_goes_on_after_a_crash.ensures house begun r es before after on (record { found = found; opens = opens; clean = here }) in
     let events = es ++ Crashed ∷ [] in
     let running = running_from (words_of house) x.0 in
-    let there = runs_as _ house begun events _ served.desk running is x.1 in
-    let old = between None served.desk in
+    let there = runs_as _ house begun events _ served.handler running is x.1 in
+    let old = between None served.handler in
     let new = between None served.leads.last in
     let sure = subst (λ it. HasCleanDisk (state g.S.Store it)) served.leads.connection clean in
     let came = served_of _ (most_of most) old new outcome served.leads.serving in

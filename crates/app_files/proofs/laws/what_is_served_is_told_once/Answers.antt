@@ -10,7 +10,7 @@ use Rattle.app_files.proofs.laws.what_is_served_is_told_once.Goals as goal
 
 pub returns : goal.returns
 returns g c = λ house p ds most left outcome served clean of has.
-    let old = between None served.desk in
+    let old = between None served.handler in
     let new = between None served.leads.last in
     let sure = subst (λ it. HasCleanDisk (state g.S.Store it)) served.leads.connection clean in
     let came = served_of _ (most_of most) old new outcome served.leads.serving in

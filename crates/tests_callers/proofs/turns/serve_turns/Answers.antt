@@ -10,7 +10,7 @@ use Rattle.tests_callers.proofs.turns.serve_turns.Goals as goal
 
 pub loop-next-preserved : goal.loop-next-preserved
 loop-next-preserved g c =
-    let S = AtTick g.T.Ticks.reads g.D.Desk.serves in
+    let S = AtTick g.T.Ticks.reads g.D.Handler.serves in
     let from = between_at g.T.Ticks c.args.context.now in
     let to = between_at g.T.Ticks c.do_next.new.context in
     let was = c.loop-next.invariant.1 in (

@@ -8,5 +8,5 @@ use Rattle.tests_callers.proofs.turns.serve_turns.Given as goal
 abbrev pub invariant-loop-next : goal.invariant-loop-next
 invariant-loop-next g l =
     KeepsLent l.fn.context l.context
-    × ((came : List Begun) × DoesAll (AtTick g.T.Ticks.reads g.D.Desk.serves) (between_at g.T.Ticks l.fn.context) (between_at g.T.Ticks l.context)
+    × ((came : List Begun) × DoesAll (AtTick g.T.Ticks.reads g.D.Handler.serves) (between_at g.T.Ticks l.fn.context) (between_at g.T.Ticks l.context)
     came l.fn.connections l.connections (take l.next-index l.fn.order))

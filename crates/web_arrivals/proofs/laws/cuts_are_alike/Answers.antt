@@ -1,4 +1,4 @@
-use Rattle.web_arrivals.specs.DeskView.{trait_meaning}
+use Rattle.web_arrivals.specs.HandlerView.{trait_meaning}
 use Rattle.web_arrivals.proofs.CutLemmas.{cuts-alike}
 use Rattle.web_arrivals.proofs.laws.cuts_are_alike.Goals as goal
 

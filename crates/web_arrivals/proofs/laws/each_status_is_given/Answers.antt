@@ -1,4 +1,4 @@
-use Rattle.web_arrivals.specs.DeskView.{trait_meaning}
+use Rattle.web_arrivals.specs.HandlerView.{trait_meaning}
 use Rattle.web_arrivals.proofs.GivenLemmas.{all-given}
 use Rattle.web_arrivals.proofs.laws.each_status_is_given.Goals as goal
 

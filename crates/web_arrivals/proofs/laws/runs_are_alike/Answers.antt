@@ -1,4 +1,4 @@
-use Rattle.web_arrivals.specs.DeskView.{trait_meaning}
+use Rattle.web_arrivals.specs.HandlerView.{trait_meaning}
 use Rattle.web_arrivals.proofs.StreamLemmas.{all-alike}
 use Rattle.web_arrivals.proofs.laws.runs_are_alike.Goals as goal
 

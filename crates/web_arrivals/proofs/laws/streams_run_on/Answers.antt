@@ -1,4 +1,4 @@
-use Rattle.web_arrivals.specs.DeskView.{trait_meaning}
+use Rattle.web_arrivals.specs.HandlerView.{trait_meaning}
 use Rattle.web_arrivals.proofs.StreamLemmas.{run-on}
 use Rattle.web_arrivals.proofs.laws.streams_run_on.Goals as goal
 

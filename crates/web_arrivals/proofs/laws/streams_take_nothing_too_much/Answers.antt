@@ -1,4 +1,4 @@
-use Rattle.web_arrivals.specs.DeskView.{trait_meaning}
+use Rattle.web_arrivals.specs.HandlerView.{trait_meaning}
 use Rattle.web_arrivals.proofs.RowLemmas.{nothing-too-much}
 use Rattle.web_arrivals.proofs.laws.streams_take_nothing_too_much.Goals as goal
 

@@ -1,4 +1,4 @@
-use Rattle.web_arrivals.specs.DeskView.{trait_meaning}
+use Rattle.web_arrivals.specs.HandlerView.{trait_meaning}
 use Rattle.web_arrivals.proofs.RowLemmas.{time-never-falls}
 use Rattle.web_arrivals.proofs.laws.time_never_falls.Goals as goal
 

@@ -1,4 +1,4 @@
-use Rattle.web_arrivals.specs.DeskView.{trait_meaning}
+use Rattle.web_arrivals.specs.HandlerView.{trait_meaning}
 use Rattle.web_callers.proofs.LawLemmas.{told_once}
 use Rattle.web_callers.proofs.laws.callers_are_told_once.Goals as goal
 

@@ -1,4 +1,4 @@
-use Rattle.web_arrivals.specs.DeskView.{trait_meaning}
+use Rattle.web_arrivals.specs.HandlerView.{trait_meaning}
 use Rattle.web_callers.proofs.LawLemmas.{run_on}
 use Rattle.web_callers.proofs.laws.callers_run_on.Goals as goal
 

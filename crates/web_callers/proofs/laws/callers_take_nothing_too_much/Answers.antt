@@ -1,4 +1,4 @@
-use Rattle.web_arrivals.specs.DeskView.{trait_meaning}
+use Rattle.web_arrivals.specs.HandlerView.{trait_meaning}
 use Rattle.web_callers.proofs.LawLemmas.{too_much}
 use Rattle.web_callers.proofs.laws.callers_take_nothing_too_much.Goals as goal
 

@@ -10,7 +10,7 @@ loop-turn-init g c = record {
   done = (
     [],
     Gives-nil _,
-    progress_none (AtTick g.T.Ticks.reads g.D.Desk.serves) _ _ (ap (λ (l : List ℕ). cursor l (g.T.Ticks.told c.args.ticks.now) c.args.desk.now (g.W.Drain.taken c.args.writer.now)) c.requires),
+    progress_none (AtTick g.T.Ticks.reads g.D.Handler.serves) _ _ (ap (λ (l : List ℕ). cursor l (g.T.Ticks.told c.args.ticks.now) c.args.handler.now (g.W.Drain.taken c.args.writer.now)) c.requires),
     record { most = omega arith; some = omega arith },
   );
   clock = refl;
@@ -21,7 +21,7 @@ loop-turn-init g c = record {
 
 pub returns-in-Ok-false : goal.returns-in-Ok-false
 returns-in-Ok-false g c =
-    let S = AtTick g.T.Ticks.reads g.D.Desk.serves in
+    let S = AtTick g.T.Ticks.reads g.D.Handler.serves in
     let inv = c.loop-turn.invariant in
     let done = inv.done in
     let e = rw c.in-Ok-false.field-0-test at c.in-Ok-false.ensures in record {
@@ -32,7 +32,7 @@ returns-in-Ok-false g c =
 
 pub returns-in-Err : goal.returns-in-Err
 returns-in-Err g c =
-    let S = AtTick g.T.Ticks.reads g.D.Desk.serves in
+    let S = AtTick g.T.Ticks.reads g.D.Handler.serves in
     let inv = c.loop-turn.invariant in
     let done = inv.done in record {
       leads = run_leads S _ _ _ done.0 c.loop-turn.turn done.1 done.3 inv.calls (broken_at S _ _ _ _ _ _ _ (broken_more S _ _ _ _ done.2 c.in-Err.ensures.leads));
@@ -42,7 +42,7 @@ returns-in-Err g c =
 
 pub returns-in-Ok-false-take_in : goal.returns-in-Ok-false-take_in
 returns-in-Ok-false-take_in g c =
-    let S = AtTick g.T.Ticks.reads g.D.Desk.serves in
+    let S = AtTick g.T.Ticks.reads g.D.Handler.serves in
     let inv = c.loop-turn.invariant in
     let done = inv.done in
     let e = rw c.in-Ok-true.field-0-test at c.in-Ok-true.ensures in
@@ -55,7 +55,7 @@ returns-in-Ok-false-take_in g c =
 
 pub returns-in-Err-take_in : goal.returns-in-Err-take_in
 returns-in-Err-take_in g c =
-    let S = AtTick g.T.Ticks.reads g.D.Desk.serves in
+    let S = AtTick g.T.Ticks.reads g.D.Handler.serves in
     let inv = c.loop-turn.invariant in
     let done = inv.done in
     let e = rw c.in-Ok-true.field-0-test at c.in-Ok-true.ensures in
@@ -67,7 +67,7 @@ returns-in-Err-take_in g c =
 
 pub loop-turn-preserved : goal.loop-turn-preserved
 loop-turn-preserved g c =
-    let S = AtTick g.T.Ticks.reads g.D.Desk.serves in
+    let S = AtTick g.T.Ticks.reads g.D.Handler.serves in
     let inv = c.loop-turn.invariant in
     let done = inv.done in
     let e = rw c.in-Ok-true.field-0-test at c.in-Ok-true.ensures in
@@ -78,7 +78,7 @@ loop-turn-preserved g c =
       done = (
         done.0 ++ input,
         Gives-append _ _ _ _ _ done.1 read.leads.1,
-        subst (λ (l : List ℕ). Progress S (cursor (done.0 ++ input) (g.T.Ticks.told c.args.ticks.now) c.args.desk.now (g.W.Drain.taken c.args.writer.now)) (cursor l (g.T.Ticks.told c.serve_ready.new.ticks) c.serve_ready.new.desk (g.W.Drain.taken c.serve_ready.new.writer))) (sym read.leads.3) fed,
+        subst (λ (l : List ℕ). Progress S (cursor (done.0 ++ input) (g.T.Ticks.told c.args.ticks.now) c.args.handler.now (g.W.Drain.taken c.args.writer.now)) (cursor l (g.T.Ticks.told c.serve_ready.new.ticks) c.serve_ready.new.handler (g.W.Drain.taken c.serve_ready.new.writer))) (sym read.leads.3) fed,
         record {
           most = omega (arith, length-append done.0 input, done.3.most, read.leads.2.1);
           some = omega (arith, length-append done.0 input, done.3.some, read.leads.2.0);
@@ -92,7 +92,7 @@ loop-turn-preserved g c =
 
 pub returns-in-Ok-true-serve_ready : goal.returns-in-Ok-true-serve_ready
 returns-in-Ok-true-serve_ready g c =
-    let S = AtTick g.T.Ticks.reads g.D.Desk.serves in
+    let S = AtTick g.T.Ticks.reads g.D.Handler.serves in
     let inv = c.loop-turn.invariant in
     let done = inv.done in
     let e = rw c.in-Ok-true-serve_ready.field-0-test at c.in-Ok-true-serve_ready.ensures in record {
@@ -103,7 +103,7 @@ returns-in-Ok-true-serve_ready g c =
 
 pub returns-in-Ok-false-serve_ready : goal.returns-in-Ok-false-serve_ready
 returns-in-Ok-false-serve_ready g c =
-    let S = AtTick g.T.Ticks.reads g.D.Desk.serves in
+    let S = AtTick g.T.Ticks.reads g.D.Handler.serves in
     let inv = c.loop-turn.invariant in
     let done = inv.done in
     let e = rw c.in-Ok-false-serve_ready.field-0-test at c.in-Ok-false-serve_ready.ensures in record {
@@ -114,7 +114,7 @@ returns-in-Ok-false-serve_ready g c =
 
 pub returns-in-Err-serve_ready : goal.returns-in-Err-serve_ready
 returns-in-Err-serve_ready g c =
-    let S = AtTick g.T.Ticks.reads g.D.Desk.serves in
+    let S = AtTick g.T.Ticks.reads g.D.Handler.serves in
     let inv = c.loop-turn.invariant in
     let done = inv.done in record {
       leads = run_leads S _ _ _ done.0 _ done.1 done.3 inv.calls (broken_at S _ _ _ _ _ _ _ (broken_more S _ _ _ _ done.2 c.in-Err-serve_ready.ensures.leads));

@@ -6,9 +6,9 @@ use Rattle.web_connection.proofs.run.serve_all.Given as goal
 abbrev pub invariant-loop-turn : goal.invariant-loop-turn
 invariant-loop-turn g l = record {
   done : (bytes : List ℕ) × Gives (g.R.Source.left l.fn.reader) bytes (g.R.Source.left l.reader)
-      × Progress (AtTick g.T.Ticks.reads g.D.Desk.serves)
-      (cursor bytes (g.T.Ticks.told l.fn.ticks) l.fn.desk (g.W.Drain.taken l.fn.writer))
-      (cursor l.frames.left (g.T.Ticks.told l.ticks) l.desk (g.W.Drain.taken l.writer))
+      × Progress (AtTick g.T.Ticks.reads g.D.Handler.serves)
+      (cursor bytes (g.T.Ticks.told l.fn.ticks) l.fn.handler (g.W.Drain.taken l.fn.writer))
+      (cursor l.frames.left (g.T.Ticks.told l.ticks) l.handler (g.W.Drain.taken l.writer))
       × InPieces bytes l.turn 0;
   clock : g.T.Ticks.failures l.ticks ≡ g.T.Ticks.failures l.fn.ticks;
   output : g.W.Drain.failures l.writer ≡ g.W.Drain.failures l.fn.writer;

@@ -10,7 +10,7 @@ pub returns-in_default-clause-said : goal.returns-in_default-clause-said
 returns-in_default-clause-said g c = inr (refl, (_, refl))
 
 pub returns-in_default-clause-leads : goal.returns-in_default-clause-leads
-returns-in_default-clause-leads g c = answers_none (AtTick (IsRead g.R.System.shows g.R.System.gives) g.D.Desk.serves) _ _ _ _ _ _ refl c.listen.ensures.came (inl refl)
+returns-in_default-clause-leads g c = answers_none (AtTick (IsRead g.R.System.shows g.R.System.gives) g.D.Handler.serves) _ _ _ _ _ _ refl c.listen.ensures.came (inl refl)
 
 pub returns-in-Ok-say-clause-said : goal.returns-in-Ok-say-clause-said
 returns-in-Ok-say-clause-said g c =
@@ -25,7 +25,7 @@ returns-in-Err-clause-said g c =
     says_listening _ _ old new (Err c.in-Err.refused) _ c.as_bytes.ensures.value c.in-Err.ensures c.end_said.ensures
 
 pub returns-in-Err-clause-leads : goal.returns-in-Err-clause-leads
-returns-in-Err-clause-leads g c = rw c.end_said.ensures (answers_unsaid (AtTick (IsRead g.R.System.shows g.R.System.gives) g.D.Desk.serves) _ _ _ _ _ refl c.listen.ensures.came)
+returns-in-Err-clause-leads g c = rw c.end_said.ensures (answers_unsaid (AtTick (IsRead g.R.System.shows g.R.System.gives) g.D.Handler.serves) _ _ _ _ _ refl c.listen.ensures.came)
 
 pub returns-in-Ok-say-clause-leads : goal.returns-in-Ok-say-clause-leads
 returns-in-Ok-say-clause-leads g c = rw c.listen.ensures.came at c.serve_network.ensures.answers

@@ -6,11 +6,11 @@ use Rattle.web_server.proofs.RoundLemmas.{hosts_more, hosts_none}
 use Rattle.web_server.proofs.serving.hear_all.Goals as goal
 
 pub loop-init : goal.loop-init
-loop-init g c = (hosts_none (AtTick g.T.Ticks.reads g.D.Desk.serves) _ _ _ _ _ _ _ _ refl refl refl refl, refl, kept_same c.args.context.now)
+loop-init g c = (hosts_none (AtTick g.T.Ticks.reads g.D.Handler.serves) _ _ _ _ _ _ _ _ refl refl refl refl, refl, kept_same c.args.context.now)
 
 pub loop-preserved : goal.loop-preserved
 loop-preserved g c =
-    let S = AtTick g.T.Ticks.reads g.D.Desk.serves in
+    let S = AtTick g.T.Ticks.reads g.D.Handler.serves in
     let from = between_at g.T.Ticks c.args.context.now in
     let mid = between_at g.T.Ticks c.loop.context in
     let to = between_at g.T.Ticks c.hear.new.context in (

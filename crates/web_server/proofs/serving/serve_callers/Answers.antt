@@ -8,9 +8,9 @@ use Rattle.web_server.proofs.serving.serve_callers.Goals as goal
 
 pub returns-in-Ok-clause-answers : goal.returns-in-Ok-clause-answers
 returns-in-Ok-clause-answers g c =
-    let S = AtTick g.T.Ticks.reads g.D.Desk.serves in
-    let from = between (g.T.Ticks.told c.args.ticks.now) c.args.desk.now in
-    let to = between (g.T.Ticks.told c.serve_with.new.ticks) c.serve_with.new.desk in
+    let S = AtTick g.T.Ticks.reads g.D.Handler.serves in
+    let from = between (g.T.Ticks.told c.args.ticks.now) c.args.handler.now in
+    let to = between (g.T.Ticks.told c.serve_with.new.ticks) c.serve_with.new.handler in
     let connections = c.serve_with.new.server.connections in
     let count = rw (c.in-Ok.ensures.connections, c.in-Ok.ensures.left) at c.serve_with.ensures.hosts.count in
     answers_all S from to 128 (most_of c.args.connections) _ _ connections _ _ c.serve_with.result
@@ -19,4 +19,4 @@ returns-in-Ok-clause-answers g c =
     (subst (λ (h : Callers). RoundsEnd c.serve_with.result h connections) c.in-Ok.ensures.connections c.serve_with.ensures.ends)
 
 pub returns-in-Err-clause-answers : goal.returns-in-Err-clause-answers
-returns-in-Err-clause-answers g c = answers_none (AtTick g.T.Ticks.reads g.D.Desk.serves) _ _ _ _ _ _ refl refl (inr refl)
+returns-in-Err-clause-answers g c = answers_none (AtTick g.T.Ticks.reads g.D.Handler.serves) _ _ _ _ _ _ refl refl (inr refl)

@@ -6,7 +6,7 @@ use Rattle.web_server.proofs.serving.serve_round.Goals as goal
 
 pub returns-clause-hosts : goal.returns-clause-hosts
 returns-clause-hosts g c =
-    let S = AtTick g.T.Ticks.reads g.D.Desk.serves in
+    let S = AtTick g.T.Ticks.reads g.D.Handler.serves in
     let from = between_at g.T.Ticks c.args.context.now in
     let to = between_at g.T.Ticks c.hear_all.new.context in
     let look = c.look_if_due.ensures in
@@ -14,4 +14,4 @@ returns-clause-hosts g c =
     (hosts_of S to to _ _ _ _ _ _ refl (reassigns_more _ _ _ _ _ _ _ _ _ (reassigns_clears _ _ _ _ _ _ look.clears (omega (arith, look.left)) look.came) c.accept.ensures.reassigns))
 
 pub returns-then-is_err-clause-hosts : goal.returns-then-is_err-clause-hosts
-returns-then-is_err-clause-hosts g c = hosts_none (AtTick g.T.Ticks.reads g.D.Desk.serves) _ _ _ _ _ _ _ _ refl refl refl c.wait.ensures.came
+returns-then-is_err-clause-hosts g c = hosts_none (AtTick g.T.Ticks.reads g.D.Handler.serves) _ _ _ _ _ _ _ _ refl refl refl c.wait.ensures.came

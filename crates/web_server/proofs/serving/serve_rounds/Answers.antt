@@ -6,11 +6,11 @@ use Rattle.web_server.proofs.RoundLemmas.{hosts_more, hosts_none}
 use Rattle.web_server.proofs.serving.serve_rounds.Goals as goal
 
 pub loop-init : goal.loop-init
-loop-init g c = (hosts_none (AtTick g.T.Ticks.reads g.D.Desk.serves) _ _ _ _ _ _ _ _ refl refl refl refl, refl, kept_same c.args.context.now)
+loop-init g c = (hosts_none (AtTick g.T.Ticks.reads g.D.Handler.serves) _ _ _ _ _ _ _ _ refl refl refl refl, refl, kept_same c.args.context.now)
 
 pub returns-in-Err-clause-hosts : goal.returns-in-Err-clause-hosts
 returns-in-Err-clause-hosts g c =
-    let S = AtTick g.T.Ticks.reads g.D.Desk.serves in
+    let S = AtTick g.T.Ticks.reads g.D.Handler.serves in
     let from = between_at g.T.Ticks c.args.context.now in
     let mid = between_at g.T.Ticks c.loop.context in
     let to = between_at g.T.Ticks c.serve_round.new.context in
@@ -21,7 +21,7 @@ returns-in-Err-clause-keeps g c = kept_more c.args.context.now c.loop.context c.
 
 pub loop-preserved : goal.loop-preserved
 loop-preserved g c =
-    let S = AtTick g.T.Ticks.reads g.D.Desk.serves in
+    let S = AtTick g.T.Ticks.reads g.D.Handler.serves in
     let from = between_at g.T.Ticks c.args.context.now in
     let mid = between_at g.T.Ticks c.loop.context in
     let to = between_at g.T.Ticks c.serve_round.new.context in (

@@ -5,6 +5,6 @@ use Rattle.web_server.proofs.serving.serve_rounds.Given as goal
 
 abbrev pub invariant-loop : goal.invariant-loop
 invariant-loop g l =
-    HostsBy g.T.Ticks g.D.Desk.serves l.fn.context l.context l.fn.server l.server (g.N.Network.came l.fn.network) (g.N.Network.came l.network)
+    HostsBy g.T.Ticks g.D.Handler.serves l.fn.context l.context l.fn.server l.server (g.N.Network.came l.fn.network) (g.N.Network.came l.network)
     × (g.N.Network.listens l.network ≡ g.N.Network.listens l.fn.network)
     × KeepsLent l.fn.context l.context

@@ -4,7 +4,7 @@ use Rattle.web_server.proofs.RoundLemmas.{hosts_none}
 use Rattle.web_server.proofs.serving.serve_with.Goals as goal
 
 pub returns-in_default-clause-hosts : goal.returns-in_default-clause-hosts
-returns-in_default-clause-hosts g c = hosts_none (AtTick g.T.Ticks.reads g.D.Desk.serves) _ _ _ _ _ _ _ _ refl refl refl refl
+returns-in_default-clause-hosts g c = hosts_none (AtTick g.T.Ticks.reads g.D.Handler.serves) _ _ _ _ _ _ _ _ refl refl refl refl
 
 pub returns-in_default-new-clause-hosts : goal.returns-in_default-new-clause-hosts
-returns-in_default-new-clause-hosts g c = hosts_none (AtTick g.T.Ticks.reads g.D.Desk.serves) _ _ _ _ _ _ _ _ refl refl refl refl
+returns-in_default-new-clause-hosts g c = hosts_none (AtTick g.T.Ticks.reads g.D.Handler.serves) _ _ _ _ _ _ _ _ refl refl refl refl

@@ -7,7 +7,7 @@ use Rattle.web_connections.proofs.TurnLemmas.{sends_moves, takes_sent, takes_uns
 use Rattle.web_connections.proofs.connection.Connection.go_on.Goals as goal
 
 pub returns-then-self-len-clause-turn : goal.returns-then-self-len-clause-turn
-returns-then-self-len-clause-turn g c = turn_moves (AtTick g.T.Ticks.reads g.D.Desk.serves) _ _ _ _ refl (sends_moves _ _ c.send.ensures)
+returns-then-self-len-clause-turn g c = turn_moves (AtTick g.T.Ticks.reads g.D.Handler.serves) _ _ _ _ refl (sends_moves _ _ c.send.ensures)
 
 pub returns-then-self-len-clause-takes : goal.returns-then-self-len-clause-takes
 returns-then-self-len-clause-takes g c =
@@ -16,7 +16,7 @@ returns-then-self-len-clause-takes g c =
 
 pub returns-clause-turn : goal.returns-clause-turn
 returns-clause-turn g c =
-    let S = AtTick g.T.Ticks.reads g.D.Desk.serves in
+    let S = AtTick g.T.Ticks.reads g.D.Handler.serves in
     let from = between_at g.T.Ticks c.args.context.now in
     let to = between_at g.T.Ticks c.reply_on.new.context in
     turn_more S from from to _ _ _ (turn_moves S from from _ _ refl c.hear_on.ensures.moves)

@@ -9,7 +9,7 @@ returns-in-Ok-Waits-clause-replies g c =
     let leads = rw c.in-Ok-Waits.field-0-is at c.in-Ok-Waits.ensures.leads in
     rw (← c.self.view_is) (record {
       went = (
-        progress_none (AtTick g.T.Ticks.reads g.D.Desk.serves) _ _ leads.1,
+        progress_none (AtTick g.T.Ticks.reads g.D.Handler.serves) _ _ leads.1,
         subst (λ (q : Cursor g.row.D.Denot). HasNone q.left) (sym leads.1) leads.0,
       );
       coming = refl;
@@ -26,7 +26,7 @@ pub returns-in-Ok-Ends-clause-replies : goal.returns-in-Ok-Ends-clause-replies
 returns-in-Ok-Ends-clause-replies g c =
     let leads = rw c.in-Ok-Ends.field-0-is at c.in-Ok-Ends.ensures.leads in
     rw (← c.self.view_is) (record {
-      went = finished_all (AtTick g.T.Ticks.reads g.D.Desk.serves) _ _ _ leads;
+      went = finished_all (AtTick g.T.Ticks.reads g.D.Handler.serves) _ _ _ leads;
       coming = refl;
       gone = refl;
       takes = λ is. (cc);

@@ -8,7 +8,7 @@ use Rattle.web_connections.proofs.connections.Connections.turn.Goals as goal
 pub returns : goal.returns
 returns g c =
     let items = c.self.inside.slots.items in
-    let S = AtTick g.T.Ticks.reads g.D.Desk.serves in
+    let S = AtTick g.T.Ticks.reads g.D.Handler.serves in
     let from = between_at g.T.Ticks c.args.context.now in
     let to = between_at g.T.Ticks c.turn.new.context in
     rw (← c.self.view_is) (record {

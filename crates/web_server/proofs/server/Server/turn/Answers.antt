@@ -5,21 +5,21 @@ use Rattle.web_server.proofs.RoundLemmas.{clears_leaves, hosts_more, hosts_none,
 use Rattle.web_server.proofs.server.Server.turn.Goals as goal
 
 pub returns-then-eq-clause-hosts : goal.returns-then-eq-clause-hosts
-returns-then-eq-clause-hosts g c = hosts_none (AtTick g.T.Ticks.reads g.D.Desk.serves) _ _ _ _ _ _ _ _ refl refl refl refl
+returns-then-eq-clause-hosts g c = hosts_none (AtTick g.T.Ticks.reads g.D.Handler.serves) _ _ _ _ _ _ _ _ refl refl refl refl
 
 pub returns-in-Ok-clause-hosts : goal.returns-in-Ok-clause-hosts
 returns-in-Ok-clause-hosts g c =
-    let S = AtTick g.T.Ticks.reads g.D.Desk.serves in
+    let S = AtTick g.T.Ticks.reads g.D.Handler.serves in
     let from = between_at g.T.Ticks c.args.context.now in
     let to = between_at g.T.Ticks c.turn.new.context in
     let note = c.note.ensures in
-    hosts_more S from to to _ _ _ _ _ _ _ _ _ (hosts_turn S from to _ _ _ c.args.slot _ (rw (c.attend.ensures) at c.turn.ensures.turn))
+    hosts_more S from to to _ _ _ _ _ _ _ _ _ (hosts_turn S from to _ _ _ c.args.slot _ (rw (c.name_caller.ensures) at c.turn.ensures.turn))
     (hosts_of S to to _ _ _ _ _ _ refl (reassigns_clears _ _ _ _ _ _ note.clears (omega (arith, note.left)) note.came))
 
 pub returns-in-Err-clause-hosts : goal.returns-in-Err-clause-hosts
 returns-in-Err-clause-hosts g c =
-    let S = AtTick g.T.Ticks.reads g.D.Desk.serves in
+    let S = AtTick g.T.Ticks.reads g.D.Handler.serves in
     let from = between_at g.T.Ticks c.args.context.now in
     let to = between_at g.T.Ticks c.turn.new.context in
-    hosts_more S from to to _ _ _ _ _ _ _ _ _ (hosts_turn S from to _ _ _ c.args.slot _ (rw (c.attend.ensures) at c.turn.ensures.turn))
+    hosts_more S from to to _ _ _ _ _ _ _ _ _ (hosts_turn S from to _ _ _ c.args.slot _ (rw (c.name_caller.ensures) at c.turn.ensures.turn))
     (hosts_of S to to _ _ _ _ _ _ refl (reassigns_clears _ _ _ _ _ _ (clears_leaves _ _ c.args.slot c.leave.ensures.free) (omega arith) refl))

@@ -13,7 +13,7 @@ use Rattle.web_responses.specs.Replies.{words}
 use Rattle.web_arrivals.specs.Deliveries.{Arrival, is_write, Running, MayLeave, IsRunning, IsAmong, also_undecided, after_none, Views}
 use Rattle.office_once.proofs.ShopLemmas.{stands-same}
 use Rattle.web_arrivals.specs.Coming.{arrival, arrival_with, number_of}
-use Rattle.web_arrivals.specs.DeskView.{DeskView, House, Meaning, house_of, words_of, reply_worded}
+use Rattle.web_arrivals.specs.HandlerView.{HandlerView, House, Meaning, house_of, words_of, reply_worded}
 use Rattle.web_arrivals.specs.Served.{ServesOnce}
 
 -- ---- a write that isn't answered is undecided from then on
@@ -36,7 +36,7 @@ still-running holds may_leave words a tables state r running = record {
 
 module _ {T : Type 0} (tables : Meaning T) (told_words : Reply → Response) where
   -- 503, with nothing changed
-  pub unavailable : (d : DeskView T) (coming : Result Arrival Response) → ServesOnce tables told_words d coming Unavailable d
+  pub unavailable : (d : HandlerView T) (coming : Result Arrival Response) → ServesOnce tables told_words d coming Unavailable d
   unavailable d (Ok a) = record {
     served = λ v views. views;
     stands = stands-same tables.holds told_words d.tables d.state a Unavailable (λ v views. refl);
@@ -53,7 +53,7 @@ module _ {T : Type 0} (tables : Meaning T) (told_words : Reply → Response) whe
   }
 
   -- behind a look-up that changes nothing
-  pub looked-up : (old mid new : DeskView T) (coming : Result Arrival Response) (answer : Answer)
+  pub looked-up : (old mid new : HandlerView T) (coming : Result Arrival Response) (answer : Answer)
       → ((v : ShopView) → Views tables.holds old.tables old.state v → Views tables.holds mid.tables mid.state v)
       → ((house : House) → tables.knows old.tables house → tables.knows mid.tables house)
       → ((left : ShopView) → tables.may_leave mid.tables left → tables.may_leave old.tables left)
@@ -72,7 +72,7 @@ module _ {T : Type 0} (tables : Meaning T) (told_words : Reply → Response) whe
   }
 
 -- the same of a message whose token was looked up
-pub known : {T : Type 0} (tables : Meaning T) (old mid new : DeskView T) (t : Tick) (m : Message) (answer : Answer) (number : Option ℕ) (told : House)
+pub known : {T : Type 0} (tables : Meaning T) (old mid new : HandlerView T) (t : Tick) (m : Message) (answer : Answer) (number : Option ℕ) (told : House)
     → mid.organizer ≡ old.organizer → mid.event ≡ old.event → number ≡ number_of told.tokens m
     → ((v : ShopView) → Views tables.holds old.tables old.state v → Views tables.holds mid.tables mid.state v)
     → ((house : House) → tables.knows old.tables house → tables.knows mid.tables house)

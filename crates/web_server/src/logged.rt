@@ -10,63 +10,63 @@ use std::alloc::Global;
 use std::marker::Model;
 use std::time::Clock;
 use web_cli::Console;
-use web_connection::Desk;
+use web_connection::Handler;
 use web_http::Frame;
 
 /// Who is told whose turn it is.
-pub trait Attended {
+pub trait NamesCaller {
     /// The next requests are of the caller of this number.
-    fn attend(&mut self, caller: u64)
+    fn name_caller(&mut self, caller: u64)
         ensures { self.new ≡ self.old };
 }
 
 /// A desk whose requests are told of: it answers as the one below it does.
 #[derive(Drop)]
-pub struct Noted<'a, R, D: Desk> {
+pub struct Logged<'a, R, D: Handler> {
     log: &'a Log<'a, R>,
-    desk: D,
+    handler: D,
     caller: u64,
 }
 
-impl<'a, R, D: Desk> Model for Noted<'a, R, D> {
+impl<'a, R, D: Handler> Model for Logged<'a, R, D> {
     ghost Value = { D };
 
-    ghost view = { λ n. n.desk };
+    ghost view = { λ n. n.handler };
 }
 
-impl<'a, R, D: Desk> Noted<'a, R, D> {
+impl<'a, R, D: Handler> Logged<'a, R, D> {
     /// A desk whose requests are told of in a log.
-    pub fn new(log: &'a Log<'a, R>, desk: D) -> Self
-        ensures { result ≡ desk }
+    pub fn new(log: &'a Log<'a, R>, handler: D) -> Self
+        ensures { result ≡ handler }
     {
-        Noted {
+        Logged {
             log,
-            desk,
+            handler,
             caller: 0,
         }
     }
 
     /// The desk itself.
-    pub fn into_desk(self) -> D
+    pub fn into_handler(self) -> D
         ensures { result ≡ self.entry }
     {
-        self.desk
+        self.handler
     }
 }
 
-impl<R, D: Desk> Attended for Noted<'_, R, D> {
-    fn attend(&mut self, caller: u64) {
+impl<R, D: Handler> NamesCaller for Logged<'_, R, D> {
+    fn name_caller(&mut self, caller: u64) {
         self.caller = caller;
     }
 }
 
-impl<R: Clock + System + Console, D: Desk> Desk for Noted<'_, R, D> {
+impl<R: Clock + System + Console, D: Handler> Handler for Logged<'_, R, D> {
     ghost serves = { D.serves };
 
     fn serve(&mut self, alloc: Global, tick: Tick, frame: &Frame<'_>) -> Answer {
         let start = self.log.start();
         let moment = tick.clock;
-        let answer = self.desk.serve(alloc, tick, frame);
+        let answer = self.handler.serve(alloc, tick, frame);
         if let Some(start) = start {
             self.log
                 .tell_request(start, moment, self.caller, frame, &answer);

@@ -10,7 +10,7 @@ use std::alloc::Global;
 use web_http::frame::Frame;
 
 /// Who answers the messages of a connection.
-pub trait Desk {
+pub trait Handler {
     // at this tick the message may be answered so, which leads to that desk
     ghost serves: { Self → Tick → Message → Answer → Self → Type 0 };
 

@@ -1,8 +1,8 @@
 use Rattle.std.proofs.Common.{◌∙◌}
 use Rattle.web_arrivals.specs.Coming.{arrival}
-use Rattle.web_arrivals.specs.DeskView.{house_of, trait_meaning, words_of}
-use Rattle.web_handler.proofs.DeskLemmas.{known, looked-up, unavailable}
-use Rattle.web_handler.proofs.desk.ShopDeskDesk.serve.Goals as goal
+use Rattle.web_arrivals.specs.HandlerView.{house_of, trait_meaning, words_of}
+use Rattle.web_handler.proofs.HandlerLemmas.{known, looked-up, unavailable}
+use Rattle.web_handler.proofs.handler.ShopHandlerHandler.serve.Goals as goal
 
 pub returns-in-Ok : goal.returns-in-Ok
 returns-in-Ok g c =

@@ -1,7 +1,7 @@
 //! A shop that answers messages.
 
 ghost use Rattle.std.specs.Prelude.{◌≡◌, IfOk};
-ghost use Rattle.web_arrivals.specs.DeskView.{DeskView, desk_with, meaning};
+ghost use Rattle.web_arrivals.specs.HandlerView.{HandlerView, handler_with, meaning};
 ghost use Rattle.web_arrivals.specs.Served.{Serves};
 
 use base_devices::Tick;
@@ -12,20 +12,20 @@ use office_once::{Office, Shop};
 use std::alloc::{AllocError, Global};
 use std::marker::Model;
 use web_arrivals::HouseWords;
-use web_connection::Desk;
+use web_connection::Handler;
 use web_http::Frame;
 
 /// A shop that answers messages. Contracts see the short names of its organizer and its event, its tables, and the rows of its
 /// office.
 #[derive(Drop)]
-pub struct ShopDesk<T: Tables, B: Book> {
+pub struct ShopHandler<T: Tables, B: Book> {
     pub(crate) shop: Shop<T, B, HouseWords>,
 }
 
-impl<T: Tables, B: Book> Model for ShopDesk<T, B> {
-    ghost use Rattle.web_arrivals.specs.DeskView.{DeskView};
+impl<T: Tables, B: Book> Model for ShopHandler<T, B> {
+    ghost use Rattle.web_arrivals.specs.HandlerView.{HandlerView};
 
-    ghost Value = { DeskView T };
+    ghost Value = { HandlerView T };
 
     ghost view = { λ d. record {
       organizer = d.shop.wording.organizer;
@@ -35,21 +35,21 @@ impl<T: Tables, B: Book> Model for ShopDesk<T, B> {
     } };
 }
 
-impl<T: Tables + Drop, B: Book + Drop> ShopDesk<T, B> {
+impl<T: Tables + Drop, B: Book + Drop> ShopHandler<T, B> {
     /// The desk of an office, over tables that hold its rows.
     pub fn over(alloc: Global, tables: T, office: Office<B>) -> Result<Self, AllocError>
         ensures { IfOk result
-            (λ desk. desk ≡ desk_with tables office.organizer office.event office.state) }
+            (λ handler. handler ≡ handler_with tables office.organizer office.event office.state) }
     {
         let words = HouseWords::new(alloc, office.organizer(), office.event())?;
-        Ok(ShopDesk::with_words(tables, office, words))
+        Ok(ShopHandler::with_words(tables, office, words))
     }
 
     /// The desk of an office, where the words of its answers were made before.
     pub fn with_words(tables: T, office: Office<B>, words: HouseWords) -> Self
-        ensures { result ≡ desk_with tables words.organizer words.event office.state }
+        ensures { result ≡ handler_with tables words.organizer words.event office.state }
     {
-        ShopDesk {
+        ShopHandler {
             shop: Shop::over(tables, office, words),
         }
     }
@@ -62,7 +62,7 @@ impl<T: Tables + Drop, B: Book + Drop> ShopDesk<T, B> {
     }
 }
 
-impl<T: Tables, B: Dues> Desk for ShopDesk<T, B> {
+impl<T: Tables, B: Dues> Handler for ShopHandler<T, B> {
     ghost serves = { Serves (meaning T.sure T.holds T.knows T.may_leave) };
 
     fn serve(&mut self, alloc: Global, tick: Tick, frame: &Frame<'_>) -> Answer {

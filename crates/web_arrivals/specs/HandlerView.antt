@@ -10,7 +10,7 @@ use Rattle.model_answers.specs.ShopView.{ShopView}
 use Rattle.web_responses.specs.Replies.{words}
 
 -- the short names of the organizer and the event, the tables, and the rows of the office
-pub record DeskView (T : Type 0) : Type 0 where
+pub record HandlerView (T : Type 0) : Type 0 where
   pub organizer : List ℕ
   pub event : List ℕ
   pub tables : T
@@ -32,23 +32,23 @@ abbrev pub trait_meaning : {T : Type 0} → Ghosts T → Meaning T
 trait_meaning g = meaning g.sure g.holds g.knows g.may_leave
 
 -- by what a message is read at a desk: its own names, and the tokens of the house that its tables know
-abbrev pub house_of : {T : Type 0} → DeskView T → House → House
-house_of desk house = record house { organizer = desk.organizer; event = desk.event }
+abbrev pub house_of : {T : Type 0} → HandlerView T → House → House
+house_of handler house = record house { organizer = handler.organizer; event = handler.event }
 
 -- what a reply is told there
 abbrev pub words_of : House → Reply → Response
 words_of house = words house.organizer house.event
 
 -- what a reply is told at a desk
-abbrev pub reply_worded : {T : Type 0} → DeskView T → Reply → Response
-reply_worded desk = words desk.organizer desk.event
+abbrev pub reply_worded : {T : Type 0} → HandlerView T → Reply → Response
+reply_worded handler = words handler.organizer handler.event
 
 -- a desk of this house, which its tables know too
-pub record IsOf {T : Type 0} (tables : Meaning T) (house : House) (desk : DeskView T) : Type 0 where
-  pub organizer : desk.organizer ≡ house.organizer
-  pub event : desk.event ≡ house.event
-  pub known : tables.knows desk.tables house
+pub record IsOf {T : Type 0} (tables : Meaning T) (house : House) (handler : HandlerView T) : Type 0 where
+  pub organizer : handler.organizer ≡ house.organizer
+  pub event : handler.event ≡ house.event
+  pub known : tables.knows handler.tables house
 
 -- the desk of an office over tables
-abbrev pub desk_with : {T : Type 0} → T → List ℕ → List ℕ → State → DeskView T
-desk_with tables organizer event state = record { organizer = organizer; event = event; tables = tables; state = state }
+abbrev pub handler_with : {T : Type 0} → T → List ℕ → List ℕ → State → HandlerView T
+handler_with tables organizer event state = record { organizer = organizer; event = event; tables = tables; state = state }
