@@ -18,7 +18,7 @@ use std::alloc::Global;
 use std::net::{Net, TcpListener, TcpStream};
 use std::time::Clock;
 use web_cli::{Console, Place, RunFault};
-use web_handler::{HouseWords, ShopHandler};
+use web_handler::{HttpWording, ShopHandler};
 use web_server::{Log, Logged, System, serve_tcp};
 
 // Serves a desk, and hands back the connection of its tables.
@@ -68,7 +68,7 @@ fn serve_opened<
         (stored_meaning S.Store) place.now.connections
         (handler_of opened) result.connection result.outcome }
 {
-    match HouseWords::new(alloc, opened.office.organizer(), opened.office.event()) {
+    match HttpWording::new(alloc, opened.office.organizer(), opened.office.event()) {
         Ok(words) => {
             let Opened { tables, office } = opened;
             let handler = ShopHandler::with_words(tables, office, words);

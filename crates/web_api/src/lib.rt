@@ -15,4 +15,4 @@ pub mod words;
 
 pub use call::Call;
 pub use key::key_of;
-pub use words::Words;
+pub use words::ApiRouter;

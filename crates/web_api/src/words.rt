@@ -20,13 +20,13 @@ use web_responses::{invalid_token, no_credentials};
 
 /// The words of the shop of an organizer's event. Contracts see the two slugs.
 #[derive(Drop)]
-pub struct Words {
+pub struct ApiRouter {
     organizer: Slug,
     event: Slug,
     router: Router<Route>,
 }
 
-impl Model for Words {
+impl Model for ApiRouter {
     ghost use Rattle.std.specs.Prelude.{◌≡◌};
     ghost use Rattle.web_api.specs.Slugs.{Slugs};
     ghost use Rattle.web_api.specs.Routes.{all_routes};
@@ -38,9 +38,9 @@ impl Model for Words {
     ghost invariant = { λ w. w.router ≡ all_routes };
 }
 
-impl Words {
+impl ApiRouter {
     /// The words of the shop with these slugs.
-    pub fn new(alloc: Global, organizer: &Slug, event: &Slug) -> Result<Words, AllocError>
+    pub fn new(alloc: Global, organizer: &Slug, event: &Slug) -> Result<ApiRouter, AllocError>
         ensures organizer { IfOk result (λ w. w.organizer ≡ organizer.now) }
         ensures event { IfOk result (λ w. w.event ≡ event.now) }
     {
@@ -49,7 +49,7 @@ impl Words {
         };
         let organizer = organizer.copy(alloc)?;
         let event = event.copy(alloc)?;
-        Ok(Words {
+        Ok(ApiRouter {
             organizer,
             event,
             router,

@@ -6,4 +6,4 @@ pub mod laws;
 pub mod words;
 
 pub use office_deliveries::Arrival;
-pub use words::HouseWords;
+pub use words::HttpWording;

@@ -13,39 +13,39 @@ use model_commands::Reply;
 use office_deliveries::{Arrival, Wording};
 use std::alloc::{AllocError, Global};
 use std::marker::Model;
-use web_api::{Words, key_of};
+use web_api::{ApiRouter, key_of};
 use web_http::Frame;
 
 /// The words of the house of an organizer's event: what a message asks for, and what a reply is told. Contracts see the two
 /// slugs.
 #[derive(Drop)]
-pub struct HouseWords {
-    words: Words,
+pub struct HttpWording {
+    router: ApiRouter,
 }
 
-impl Model for HouseWords {
+impl Model for HttpWording {
     ghost use Rattle.web_api.specs.Slugs.{Slugs};
 
     ghost Value = { Slugs };
 
-    ghost view = { λ w. w.words };
+    ghost view = { λ w. w.router };
 }
 
-impl HouseWords {
+impl HttpWording {
     /// The words of the house with these slugs.
     pub fn new(alloc: Global, organizer: &Slug, event: &Slug) -> Result<Self, AllocError>
         ensures organizer { IfOk result (λ w. w.organizer ≡ organizer.now) }
         ensures event { IfOk result (λ w. w.event ≡ event.now) }
     {
-        let words = Words::new(alloc, organizer, event)?;
-        Ok(HouseWords { words })
+        let router = ApiRouter::new(alloc, organizer, event)?;
+        Ok(HttpWording { router })
     }
 
     /// The SHA-256 digest of a message's token, where it has one.
     pub fn token_digest(&self, frame: &Frame<'_>) -> Option<[u8; 32]>
         ensures { result ≡ option_map sha256 (token_of frame.now) }
     {
-        self.words.token_digest(frame)
+        self.router.token_digest(frame)
     }
 
     /// The arrival that a message is, where its token has this number, or else what is told without one.
@@ -59,16 +59,16 @@ impl HouseWords {
         ensures { IfOk result
             (λ r. r ≡ arrival_with self.now.organizer self.now.event number tick frame.now) }
     {
-        let call = self.words.read_request(alloc, frame, number)?;
+        let call = self.router.read_request(alloc, frame, number)?;
         let key = key_of(alloc, frame)?;
         Ok(arrival_of(tick, number.unwrap_or(0), key, call))
     }
 }
 
-impl Wording for HouseWords {
+impl Wording for HttpWording {
     ghost words = { λ w. words w.organizer w.event };
 
     fn words(&self, alloc: Global, reply: &Reply) -> Result<Response, AllocError> {
-        self.words.words(alloc, reply)
+        self.router.words(alloc, reply)
     }
 }

@@ -11,7 +11,7 @@ use model_answers::Tables;
 use office_once::{Office, Shop};
 use std::alloc::{AllocError, Global};
 use std::marker::Model;
-use web_arrivals::HouseWords;
+use web_arrivals::HttpWording;
 use web_connection::Handler;
 use web_http::Frame;
 
@@ -19,7 +19,7 @@ use web_http::Frame;
 /// office.
 #[derive(Drop)]
 pub struct ShopHandler<T: Tables, B: Book> {
-    pub(crate) shop: Shop<T, B, HouseWords>,
+    pub(crate) shop: Shop<T, B, HttpWording>,
 }
 
 impl<T: Tables, B: Book> Model for ShopHandler<T, B> {
@@ -41,12 +41,12 @@ impl<T: Tables + Drop, B: Book + Drop> ShopHandler<T, B> {
         ensures { IfOk result
             (λ handler. handler ≡ handler_with tables office.organizer office.event office.state) }
     {
-        let words = HouseWords::new(alloc, office.organizer(), office.event())?;
+        let words = HttpWording::new(alloc, office.organizer(), office.event())?;
         Ok(ShopHandler::with_words(tables, office, words))
     }
 
     /// The desk of an office, where the words of its answers were made before.
-    pub fn with_words(tables: T, office: Office<B>, words: HouseWords) -> Self
+    pub fn with_words(tables: T, office: Office<B>, words: HttpWording) -> Self
         ensures { result ≡ handler_with tables words.organizer words.event office.state }
     {
         ShopHandler {

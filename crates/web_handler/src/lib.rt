@@ -10,4 +10,4 @@ pub use handler::ShopHandler;
 pub use feeding::feed_office;
 pub use office::serve_office;
 pub use office_once::Office;
-pub use web_arrivals::HouseWords;
+pub use web_arrivals::HttpWording;

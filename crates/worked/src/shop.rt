@@ -6,7 +6,7 @@ use book_usage::Dues;
 use model_answers::Tables;
 use std::alloc::Global;
 use web_connection::{Handler, Failure, Room, run_stream};
-use web_handler::{HouseWords, Office, ShopHandler};
+use web_handler::{HttpWording, Office, ShopHandler};
 
 /// The tables of a shop that answered a case; how it ended, and what was written.
 pub(crate) struct Answered<T> {
@@ -67,7 +67,7 @@ pub(crate) fn answer_opened<T: Tables + Drop, B: Dues + Drop>(
     case: &[u8],
     opened: (T, Office<B>),
 ) -> Answered<T> {
-    match HouseWords::new(alloc, opened.1.organizer(), opened.1.event()) {
+    match HttpWording::new(alloc, opened.1.organizer(), opened.1.event()) {
         Ok(words) => {
             let (tables, office) = opened;
             answer_shop(alloc, case, ShopHandler::with_words(tables, office, words))
