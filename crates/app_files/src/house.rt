@@ -22,7 +22,7 @@ use std::alloc::{AllocError, Global};
 use std::marker::PhantomData;
 use std::net::{Net, TcpListener, TcpStream};
 use std::time::Clock;
-use web_cli::{Console, HouseFiles, Place, Report, RunFault};
+use web_cli::{Console, HouseFiles, ServeOptions, Report, RunFault};
 use web_server::{Log, System};
 
 /// The commands on shops' files: over the files of a shelf, on a system with a clock, chance and a network. Each opens its file, does what
@@ -170,12 +170,12 @@ impl<
         &self,
         alloc: Global,
         file: &str,
-        place: &Place<'_>,
+        options: &ServeOptions<'_>,
         writer: &mut W,
     ) -> Result<(), RunFault> {
-        let log = Log::new(self.rt, alloc, file, place.log);
+        let log = Log::new(self.rt, alloc, file, options.log);
         let connection = self.found(file)?;
-        self.ended(serve_shop(self.rt, alloc, connection, &log, place, writer))
+        self.ended(serve_shop(self.rt, alloc, connection, &log, options, writer))
     }
 
     fn work(&self, alloc: Global, file: &str) -> Result<Body, RunFault> {

@@ -17,7 +17,7 @@ use sqlite::{Alter, Connection};
 use std::alloc::Global;
 use std::net::{Net, TcpListener, TcpStream};
 use std::time::Clock;
-use web_cli::{Console, Place, RunFault};
+use web_cli::{Console, ServeOptions, RunFault};
 use web_handler::{HttpWording, ShopHandler};
 use web_server::{Log, Logged, System, serve_tcp};
 
@@ -31,17 +31,17 @@ fn serve_handler<
     rt: &R,
     alloc: Global,
     log: &Log<'_, R>,
-    place: &Place<'_>,
+    options: &ServeOptions<'_>,
     handler: ShopHandler<SqlTables<S>, B>,
     writer: &mut W,
 ) -> Filed<S, ()>
-    ensures said { OnPage W.Drain (TellsListening place.now.text.now)
+    ensures said { OnPage W.Drain (TellsListening options.now.text.now)
         writer.old writer.new result.outcome }
     ensures leads { LeadsFrom (IsRead R.shows R.gives) (stored_meaning S.Store)
-        place.now.connections handler result.connection result.outcome }
+        options.now.connections handler result.connection result.outcome }
 {
     let mut logged = Logged::new(log, handler);
-    let outcome = serve_tcp(rt, alloc, log, place, &mut logged, writer);
+    let outcome = serve_tcp(rt, alloc, log, options, &mut logged, writer);
     Filed {
         connection: logged.into_handler().into_tables().into_connection(),
         outcome,
@@ -58,21 +58,21 @@ fn serve_opened<
     rt: &R,
     alloc: Global,
     log: &Log<'_, R>,
-    place: &Place<'_>,
+    options: &ServeOptions<'_>,
     opened: Opened<S, B>,
     writer: &mut W,
 ) -> Filed<S, ()>
-    ensures said { OnPage W.Drain (TellsListening place.now.text.now)
+    ensures said { OnPage W.Drain (TellsListening options.now.text.now)
         writer.old writer.new result.outcome }
     ensures leads { LeadsFrom (IsRead R.shows R.gives)
-        (stored_meaning S.Store) place.now.connections
+        (stored_meaning S.Store) options.now.connections
         (handler_of opened) result.connection result.outcome }
 {
     match HttpWording::new(alloc, opened.office.organizer(), opened.office.event()) {
         Ok(words) => {
             let Opened { tables, office } = opened;
             let handler = ShopHandler::with_words(tables, office, words);
-            serve_handler(rt, alloc, log, place, handler, writer)
+            serve_handler(rt, alloc, log, options, handler, writer)
         }
         Err(_) => Filed {
             connection: connection_of(opened),
@@ -94,13 +94,13 @@ pub fn serve_shop<
     alloc: Global,
     connection: Connection<S>,
     log: &Log<'_, R>,
-    place: &Place<'_>,
+    options: &ServeOptions<'_>,
     writer: &mut W,
 ) -> Filed<S, ()>
-    ensures said { OnPage W.Drain (TellsListening place.now.text.now)
+    ensures said { OnPage W.Drain (TellsListening options.now.text.now)
         writer.old writer.new result.outcome }
     ensures served { CameTo S.Store (IsOpenedAndServed (IsRead R.shows R.gives) S.Store
-        (stored_meaning S.Store) place.now.connections) connection result
+        (stored_meaning S.Store) options.now.connections) connection result
         ⊎ (CameTo S.Store (StaysUnopened S.Store) connection result
         × IsSilent (writer_page W.Drain writer.old) (writer_page W.Drain writer.new)) }
 {
@@ -108,7 +108,7 @@ pub fn serve_shop<
     match open_counted(rt, alloc, connection, &mut rows) {
         Ok(opened) => {
             log.tell_opened(rows);
-            serve_opened(rt, alloc, log, place, opened, writer)
+            serve_opened(rt, alloc, log, options, opened, writer)
         }
         Err(filed) => filed,
     }

@@ -9,7 +9,7 @@ use base_values::{Body, is_slug};
 use itoa::Buffer;
 use std::alloc::Global;
 use web_cli::{
-    Argument, HouseFiles, Place, Report, RunFault, ServeLine, end_said, is_token, say, serve_values,
+    Argument, HouseFiles, ServeOptions, Report, RunFault, ServeLine, end_said, is_token, say, serve_values,
 };
 use web_http::write_all;
 
@@ -88,13 +88,13 @@ pub fn serve_shop<F: HouseFiles, W: Drain>(
 {
     match serve_values(line.listen, line.connections) {
         Ok((addr, connections)) => {
-            let place = Place {
+            let options = ServeOptions {
                 addr,
                 text: line.listen,
                 connections,
                 log: line.log,
             };
-            files.serve(alloc, line.file, &place, writer)
+            files.serve(alloc, line.file, &options, writer)
         }
         Err(argument) => Err(RunFault::Argument(argument)),
     }

@@ -17,7 +17,7 @@ use std::net::SocketAddr;
 
 /// Where a shop is served, and how long.
 #[derive(Clone, Copy)]
-pub struct Place<'a> {
+pub struct ServeOptions<'a> {
     /// The address that is listened at.
     pub addr: SocketAddr,
     /// Its text, as it was given.
@@ -72,12 +72,12 @@ pub trait HouseFiles {
         &self,
         alloc: Global,
         file: &str,
-        place: &Place<'_>,
+        options: &ServeOptions<'_>,
         writer: &mut W,
     ) -> Result<(), RunFault>
-        ensures served { served file.now place.now.addr place.now.connections result }
+        ensures served { served file.now options.now.addr options.now.connections result }
         ensures said { OnPage W.Drain
-            (TellsListening place.now.text.now) writer.old writer.new result };
+            (TellsListening options.now.text.now) writer.old writer.new result };
 
     /// Does the periodic work of the shop in a file at the system's moment, and tells what was done: `expired E, deleted D, sent S`. Faults:
     /// 80 where the file can't be opened, 60 to 63 where it isn't a shop's that is whole, or what was done couldn't be written, 85 where

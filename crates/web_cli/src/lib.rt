@@ -23,7 +23,7 @@ pub use console::Console;
 pub use devices::counted;
 pub use ended::LineEnd;
 pub use fault::RunFault;
-pub use files::{HouseFiles, Place};
+pub use files::{HouseFiles, ServeOptions};
 pub use line::{answer_line, tell_fault, tell_report, tell_run, tell_words};
 pub use saying::{end_said, say};
 pub use ticks::{FeedTicks, Pace};

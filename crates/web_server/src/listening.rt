@@ -22,7 +22,7 @@ use std::marker::Brand;
 use std::net::{Net, TcpListener, TcpStream};
 use std::sync::ledger::{Blank, Ledger};
 use std::time::Clock;
-use web_cli::{Console, Place, RunFault, end_said, say};
+use web_cli::{Console, ServeOptions, RunFault, end_said, say};
 use web_connection::Handler;
 use web_sockets::{Ends, Network};
 
@@ -58,26 +58,26 @@ fn serve_network<
 pub fn serve_at<R: Clock + System + Console, E: Ends, N: Network<E>, D: Handler + NamesCaller, W: Drain>(
     host: &Host<'_, R>,
     network: &mut N,
-    place: &Place<'_>,
+    options: &ServeOptions<'_>,
     handler: &mut D,
     writer: &mut W,
 ) -> Result<(), RunFault>
-    ensures said { TellsListening place.now.text.now
+    ensures said { TellsListening options.now.text.now
         (writer_page W.Drain writer.old) (writer_page W.Drain writer.new) result }
-    ensures listens { OnOk result (N.listens network.new ≡ Some place.now.addr) }
+    ensures listens { OnOk result (N.listens network.new ≡ Some options.now.addr) }
     ensures leads { AnswersCallers (AtTick (IsRead R.shows R.gives) D.serves)
-        (most_of place.now.connections)
+        (most_of options.now.connections)
         (between None handler.old) (between None handler.new)
         (N.came network.old) (N.came network.new) result }
 {
-    let Ok(()) = network.listen(place.addr) else {
+    let Ok(()) = network.listen(options.addr) else {
         return Err(RunFault::Listen);
     };
-    match say(writer, b"listening on ", place.text.as_bytes()) {
+    match say(writer, b"listening on ", options.text.as_bytes()) {
         Ok(()) => serve_network::<Brand, R, E, N, D>(
             host,
             network,
-            place.connections,
+            options.connections,
             handler,
             Blank::new(1),
         ),
@@ -95,14 +95,14 @@ pub fn serve_tcp<
     rt: &R,
     alloc: Global,
     log: &Log<'_, R>,
-    place: &Place<'_>,
+    options: &ServeOptions<'_>,
     handler: &mut D,
     writer: &mut W,
 ) -> Result<(), RunFault>
-    ensures said { TellsListening place.now.text.now
+    ensures said { TellsListening options.now.text.now
         (writer_page W.Drain writer.old) (writer_page W.Drain writer.new) result }
     ensures leads { AnswersCallers (AtTick (IsRead R.shows R.gives) D.serves)
-        (most_of place.now.connections)
+        (most_of options.now.connections)
         (between None handler.old) (between None handler.new)
         None None result }
 {
@@ -114,7 +114,7 @@ pub fn serve_tcp<
     };
     let host = Host::new(rt, alloc, log);
     match TcpNetwork::new(alloc, rt, poll, &registry) {
-        Ok(mut tcp_network) => serve_at(&host, &mut tcp_network, place, handler, writer),
+        Ok(mut tcp_network) => serve_at(&host, &mut tcp_network, options, handler, writer),
         Err(_) => Err(RunFault::Memory),
     }
 }

@@ -11,7 +11,7 @@ use std::alloc::{AllocError, Global};
 use std::io::Read;
 use std::marker::Brand;
 use std::sync::ledger::{Blank, Ledger};
-use web_cli::{HouseFiles, LineEnd, Place, Report, RunFault, counted, end_said, say};
+use web_cli::{HouseFiles, LineEnd, ServeOptions, Report, RunFault, counted, end_said, say};
 use web_http::write_all;
 
 /// What a command line came to.
@@ -69,13 +69,13 @@ impl HouseFiles for OneFile {
         &self,
         _alloc: Global,
         file: &str,
-        place: &Place<'_>,
+        options: &ServeOptions<'_>,
         writer: &mut W,
     ) -> Result<(), RunFault> {
         if file != "hall.db" {
             return Err(RunFault::File);
         }
-        match say(writer, b"listening on ", place.text.as_bytes()) {
+        match say(writer, b"listening on ", options.text.as_bytes()) {
             Ok(()) => Ok(()),
             Err(refused) => end_said(Err(refused)),
         }
