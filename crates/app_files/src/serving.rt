@@ -19,7 +19,7 @@ use std::net::{Net, TcpListener, TcpStream};
 use std::time::Clock;
 use web_cli::{Console, ServeOptions, RunFault};
 use web_handler::{HttpWording, ShopHandler};
-use web_server::{Log, Logged, System, serve_tcp};
+use web_server::{Log, Logged, System, run_over_tcp};
 
 // Serves a desk, and hands back the connection of its tables.
 fn serve_handler<
@@ -41,7 +41,7 @@ fn serve_handler<
         options.now.connections handler result.connection result.outcome }
 {
     let mut logged = Logged::new(log, handler);
-    let outcome = serve_tcp(rt, alloc, log, options, &mut logged, writer);
+    let outcome = run_over_tcp(rt, alloc, log, options, &mut logged, writer);
     Filed {
         connection: logged.into_handler().into_tables().into_connection(),
         outcome,

@@ -9,7 +9,7 @@ use base_values::{Body, is_slug};
 use itoa::Buffer;
 use std::alloc::Global;
 use web_cli::{
-    Argument, HouseFiles, ServeOptions, Report, RunFault, ServeLine, end_said, is_token, say, serve_values,
+    Argument, HouseFiles, ServeOptions, Report, RunFault, ServeLine, end_said, is_token, say, read_options,
 };
 use web_http::write_all;
 
@@ -77,7 +77,7 @@ pub fn add_token<F: HouseFiles, W: Drain>(
 
 /// `serve`: serves the shop in a file at an address, and says `listening on ADDR` once callers can come. A value that can't be read is
 /// fault 84, and then no file is asked for.
-pub fn serve_shop<F: HouseFiles, W: Drain>(
+pub fn run_serve<F: HouseFiles, W: Drain>(
     alloc: Global,
     files: &F,
     line: ServeLine<'_>,
@@ -86,7 +86,7 @@ pub fn serve_shop<F: HouseFiles, W: Drain>(
     ensures { OnPage W.Drain (ServesFile F.served line.entry.file.now line.entry.listen.now
         (option_map (λ t. t.now) line.entry.connections)) writer.old writer.new result }
 {
-    match serve_values(line.listen, line.connections) {
+    match read_options(line.listen, line.connections) {
         Ok((addr, connections)) => {
             let options = ServeOptions {
                 addr,

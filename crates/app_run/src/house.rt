@@ -8,10 +8,10 @@ use crate::opening::open_memory;
 use base_devices::{Drain, Source, Ticks};
 use std::alloc::Global;
 use web_connection::Failure;
-use web_handler::serve_office;
+use web_handler::run_office;
 
 /// Answers a stream of requests from the shop that `feed` begins with, which is opened for it in SQLite's memory.
-pub fn serve_house<R: Source, T: Ticks, W: Drain>(
+pub fn run_memory_shop<R: Source, T: Ticks, W: Drain>(
     alloc: Global,
     reader: &mut R,
     ticks: &mut T,
@@ -26,7 +26,7 @@ pub fn serve_house<R: Source, T: Ticks, W: Drain>(
     ensures calls { R.calls reader.new ≤ R.calls reader.old + most_reads }
 {
     match open_memory(alloc) {
-        Ok((tables, office)) => serve_office(alloc, reader, ticks, tables, office, writer),
+        Ok((tables, office)) => run_office(alloc, reader, ticks, tables, office, writer),
         Err(_) => Err(Failure::Memory),
     }
 }

@@ -13,8 +13,8 @@ pub mod opening;
 pub mod typed;
 
 pub use feeding::{feed, feed_texts};
-pub use filing::{add_token, export_shop, make_shop, report_shop, serve_shop, work_shop};
-pub use house::serve_house;
+pub use filing::{add_token, export_shop, make_shop, report_shop, run_serve, work_shop};
+pub use house::run_memory_shop;
 pub use line::run;
 pub use opening::{open_memory, open_store};
 pub use typed::add_typed_token;

@@ -8,7 +8,7 @@ ghost use Rattle.web_cli.specs.Values.{report_of};
 
 use crate::feeding::feed_texts;
 use crate::filing::{
-    add_token, export_shop, import_vouchers, make_shop, report_shop, serve_shop, work_shop,
+    add_token, export_shop, import_vouchers, make_shop, report_shop, run_serve, work_shop,
 };
 use crate::typed::add_typed_token;
 use base_devices::{Drain, Source};
@@ -87,7 +87,7 @@ pub fn run<O: Console, F: HouseFiles, R: Source, W: Drain>(
         Ok(Line::TokenAdd(line)) => {
             add_given_token(rt, alloc, files, line.file, line.token, reader, writer)
         }
-        Ok(Line::Serve(line)) => tell_run(rt, serve_shop(alloc, files, line, writer)),
+        Ok(Line::Serve(line)) => tell_run(rt, run_serve(alloc, files, line, writer)),
         Ok(Line::Periodic(line)) => tell_run(rt, work_shop(alloc, files, line.file, writer)),
         Ok(Line::Report(line)) => {
             report_file(rt, alloc, files, line.file, line.report, line.list, writer)

@@ -13,4 +13,4 @@ mod turns;
 pub use entries::{change, leave};
 pub use joining::join;
 pub use sending::send;
-pub use serving::serve_all;
+pub use serving::send_all;

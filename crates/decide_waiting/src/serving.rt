@@ -22,7 +22,7 @@ use std::alloc::{AllocError, Global};
 /// Sends a voucher to each waiting entry that can be sent one in its turn, in a draft that has changed no waiting entry,
 /// and answers the ids of these entries in their turn: a higher priority goes first, then who came first.
 /// It ends where the table of vouchers is full. `Err` where there is no memory; the draft is then as it was.
-pub fn serve_all<B: Book>(
+pub fn send_all<B: Book>(
     draft: &mut Draft<'_, B>,
     alloc: Global,
     draw: Draw,
@@ -42,13 +42,13 @@ pub fn serve_all<B: Book>(
     }
     let mut left = places_left(draft, alloc)?;
     let mark = draft.mark();
-    let served = serve_each(draft, alloc, draw, &queue, &mut left);
+    let served = send_each(draft, alloc, draw, &queue, &mut left);
     draft.end_attempt(mark, served)
 }
 
 // Sends to each of these entries in turn, or skips it, until the table of vouchers is full.
 // Without memory some of them are sent.
-fn serve_each<B: Book>(
+fn send_each<B: Book>(
     draft: &mut Draft<'_, B>,
     alloc: Global,
     draw: Draw,
@@ -66,14 +66,14 @@ fn serve_each<B: Book>(
         if !draft.takes_voucher() {
             return Ok(ids);
         }
-        serve_one(draft, alloc, draw, *id, left, &mut ids)?;
+        send_one(draft, alloc, draw, *id, left, &mut ids)?;
     }
     Ok(ids)
 }
 
 // Sends to one entry, notes its id and takes its places, or skips it where it can't be sent.
 #[tactic(auto, unfolding(crate::specs::Sending::voucher_sent))]
-fn serve_one<B: Book>(
+fn send_one<B: Book>(
     draft: &mut Draft<'_, B>,
     alloc: Global,
     draw: Draw,

@@ -10,7 +10,7 @@ ghost use Rattle.model_commands.specs.declared.requests.Command.{Command};
 
 use base_values::{Draw, Moment};
 use decide_orders::{drop_dead_carts, expire_orders};
-use decide_waiting::{change, join, leave, send, serve_all};
+use decide_waiting::{change, join, leave, send, send_all};
 use model_commands::{
     Kind, NewWaiting, PeriodicCounts, Refusal, Reply, Shown, WaitingPatch, WaitingRefusal,
 };
@@ -129,7 +129,7 @@ fn work_in<B: Book>(
 {
     let expired = expire_orders(draft, alloc)?;
     let deleted = drop_dead_carts(draft, alloc)?;
-    let sent = serve_all(draft, alloc, draw)?;
+    let sent = send_all(draft, alloc, draw)?;
     Ok(PeriodicCounts {
         expired,
         deleted,

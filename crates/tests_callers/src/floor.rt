@@ -1,7 +1,7 @@
 //! A hall, who is in it, and what those who left were told.
 
 use crate::party::Guest;
-use crate::turns::serve_turns;
+use crate::turns::take_turns;
 use base_devices::Ticks;
 use std::alloc::{AllocError, Global};
 use std::sync::ledger::Ledger;
@@ -74,7 +74,7 @@ impl<'a> Floor<'a> {
             return self.leave(slot);
         }
         let (connections, callers_to_come) = (&mut self.connections, &mut self.callers_to_come);
-        serve_turns(context, connections, callers_to_come, &[next]);
+        take_turns(context, connections, callers_to_come, &[next]);
     }
 
     /// All leave: what each caller was told, by its number.

@@ -26,7 +26,7 @@ fn go_on<L: Ledger, M: Ledger, T: Ticks, D: Handler>(
 
 impl Party<'_> {
     // Serves the callers in this order, with a ledger for each count of the page.
-    fn serve_with<L: Ledger, M: Ledger, T: Ticks, D: Handler>(
+    fn run_plan_with<L: Ledger, M: Ledger, T: Ticks, D: Handler>(
         &self,
         alloc: Global,
         order: &[Next],
@@ -57,7 +57,7 @@ impl Party<'_> {
         ticks: &mut T,
         handler: &mut D,
     ) -> Result<Vec<Vec<u8>>, TogetherError> {
-        self.serve_with::<Brand, Brand, T, D>(
+        self.run_plan_with::<Brand, Brand, T, D>(
             alloc,
             order,
             ticks,

@@ -52,7 +52,7 @@ fn do_next<E: Ends, L: Ledger, M: Ledger, T: Ticks, D: Handler>(
 
 /// Callers come, have turns and leave, in whatever order, at one desk. Nobody comes where nobody is left who may, where no place is free, or
 /// where there is no memory for one more.
-pub fn serve_turns<E: Ends, L: Ledger, M: Ledger, T: Ticks, D: Handler>(
+pub fn take_turns<E: Ends, L: Ledger, M: Ledger, T: Ticks, D: Handler>(
     context: &mut Context<'_, L, M, T, D>,
     connections: &mut Connections<E>,
     callers_to_come: &mut Vec<E>,

@@ -43,7 +43,7 @@ fn connections_of(text: Option<&str>) -> Option<u64>
 
 /// The values of `--listen` and `--connections`: an IP address with a port, as `SocketAddr` reads it, and 0 to 1000000 connections as
 /// plain digits, 0 where they are left out; or which of the two can't be read.
-pub fn serve_values(listen: &str, connections: Option<&str>) -> Result<(SocketAddr, u64), Argument>
+pub fn read_options(listen: &str, connections: Option<&str>) -> Result<(SocketAddr, u64), Argument>
     ensures { AreServeValues listen.now (option_map (λ t. t.now) connections.entry) result }
 {
     let Ok(addr) = listen.parse::<SocketAddr>() else {

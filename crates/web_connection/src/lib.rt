@@ -11,4 +11,4 @@ pub mod step;
 pub use handler::Handler;
 pub use failure::Failure;
 pub use buffers::{ReadBuffer, Buffers, blank};
-pub use run::{run_stream, serve_handler};
+pub use run::{run_stream, run_connection};

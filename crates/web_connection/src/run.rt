@@ -7,7 +7,7 @@ ghost use Rattle.web_connection.specs.Outside.{RunsFrom, RunsOver, outside};
 use crate::handler::Handler;
 use crate::failure::Failure;
 use crate::buffers::Buffers;
-use crate::step::serve_ready;
+use crate::step::answer_ready;
 use base_devices::device::{Drain, Source, Ticks};
 use std::alloc::Global;
 use web_http::frames::Frames;
@@ -37,7 +37,7 @@ fn take_in<R: Source>(
 }
 
 /// Reads to the end, and answers each message.
-fn serve_all<R: Source, T: Ticks, D: Handler, W: Drain>(
+fn answer_all<R: Source, T: Ticks, D: Handler, W: Drain>(
     alloc: Global,
     buffers: &mut Buffers,
     reader: &mut R,
@@ -52,7 +52,7 @@ fn serve_all<R: Source, T: Ticks, D: Handler, W: Drain>(
 {
     let Buffers { frames, input } = buffers;
     for turn in 0..1_000_000u32 {
-        match serve_ready(alloc, frames, ticks, handler, writer) {
+        match answer_ready(alloc, frames, ticks, handler, writer) {
             Ok(true) => {}
             Ok(false) => return Ok(()),
             Err(failure) => return Err(failure),
@@ -63,7 +63,7 @@ fn serve_all<R: Source, T: Ticks, D: Handler, W: Drain>(
             Err(failure) => return Err(failure),
         }
     }
-    match serve_ready(alloc, frames, ticks, handler, writer) {
+    match answer_ready(alloc, frames, ticks, handler, writer) {
         Ok(true) => Err(Failure::Limit),
         Ok(false) => Ok(()),
         Err(failure) => Err(failure),
@@ -87,11 +87,11 @@ pub fn run_stream<R: Source, T: Ticks, D: Handler, W: Drain>(
         (outside R.Source T.Ticks W.Drain reader.new ticks.new writer.new) result }
 {
     buffers.frames.clear();
-    serve_all(alloc, buffers, reader, ticks, handler, writer)
+    answer_all(alloc, buffers, reader, ticks, handler, writer)
 }
 
 /// Answers a stream of requests at a desk that is there for it alone.
-pub fn serve_handler<R: Source, T: Ticks, D: Handler + Drop, W: Drain>(
+pub fn run_connection<R: Source, T: Ticks, D: Handler + Drop, W: Drain>(
     alloc: Global,
     reader: &mut R,
     ticks: &mut T,

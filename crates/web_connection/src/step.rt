@@ -47,7 +47,7 @@ pub fn step<T: Ticks, D: Handler, W: Drain>(
 }
 
 /// Answers each message that is whole. Whether the connection goes on.
-pub fn serve_ready<T: Ticks, D: Handler, W: Drain>(
+pub fn answer_ready<T: Ticks, D: Handler, W: Drain>(
     alloc: Global,
     frames: &mut Frames,
     ticks: &mut T,

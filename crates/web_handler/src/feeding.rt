@@ -5,7 +5,7 @@ ghost use Rattle.base_devices.specs.Blanks.{IsBlankOf};
 ghost use Rattle.web_arrivals.specs.HandlerView.{handler_with, trait_meaning};
 ghost use Rattle.web_handler.specs.Fed.{FeedsHandler, ports_at};
 
-use crate::office::serve_office;
+use crate::office::run_office;
 use base_devices::{Drain, Source};
 use base_values::{Moment, Steps};
 use book_usage::Dues;
@@ -43,7 +43,7 @@ fn feed_with<P: Pace, E: Ledger, T: Tables + Drop, B: Dues + Drop, R: Source, W:
         failures: Steps::<E>::new(blank),
         pace: PhantomData,
     };
-    serve_office(alloc, reader, &mut ticks, tables, office, writer)
+    run_office(alloc, reader, &mut ticks, tables, office, writer)
 }
 
 /// Reads requests to the end of the input, and writes the answers that the shop of an office gives, whatever its tables are. The first request

@@ -8,6 +8,6 @@ mod serving;
 
 pub use handler::ShopHandler;
 pub use feeding::feed_office;
-pub use office::serve_office;
+pub use office::run_office;
 pub use office_once::Office;
 pub use web_arrivals::HttpWording;

@@ -10,10 +10,10 @@ use book_usage::Dues;
 use model_answers::Tables;
 use office_once::Office;
 use std::alloc::Global;
-use web_connection::{Failure, serve_handler};
+use web_connection::{Failure, run_connection};
 
 /// Answers a stream of requests from the shop of an office over tables that hold it.
-pub fn serve_office<R: Source, K: Ticks, T: Tables + Drop, B: Dues + Drop, W: Drain>(
+pub fn run_office<R: Source, K: Ticks, T: Tables + Drop, B: Dues + Drop, W: Drain>(
     alloc: Global,
     reader: &mut R,
     ticks: &mut K,
@@ -29,5 +29,5 @@ pub fn serve_office<R: Source, K: Ticks, T: Tables + Drop, B: Dues + Drop, W: Dr
     let Ok(handler) = ShopHandler::over(alloc, tables, office) else {
         return Err(Failure::Memory);
     };
-    serve_handler(alloc, reader, ticks, handler, writer)
+    run_connection(alloc, reader, ticks, handler, writer)
 }

@@ -14,9 +14,9 @@ mod timeouts;
 
 pub use clock::{ClockTicks, System, read_tick};
 pub use host::Host;
-pub use listening::{serve_at, serve_tcp};
+pub use listening::{listen_and_run, run_over_tcp};
 pub use log::Log;
 pub use logged::{NamesCaller, Logged};
-pub use serving::serve_callers;
+pub use serving::run_event_loop;
 pub use tcp_network::TcpNetwork;
 pub use web_callers::laws;

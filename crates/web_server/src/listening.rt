@@ -12,7 +12,7 @@ use crate::clock::{ClockTicks, System};
 use crate::host::Host;
 use crate::log::Log;
 use crate::logged::NamesCaller;
-use crate::serving::serve_callers;
+use crate::serving::run_event_loop;
 use crate::tcp_network::TcpNetwork;
 use base_devices::Drain;
 use base_values::Steps;
@@ -27,7 +27,7 @@ use web_connection::Handler;
 use web_sockets::{Ends, Network};
 
 // Answers the callers of a listener by the system's clock, with a ledger for the failures of its ticks.
-fn serve_network<
+fn run_network<
     M: Ledger,
     R: Clock + System + Console,
     E: Ends,
@@ -49,13 +49,13 @@ fn serve_network<
     let failures = Steps::<M>::new(blank);
     let rt = host.rt;
     let mut ticks = ClockTicks::<R, M> { rt, failures };
-    serve_callers(host, network, connections, &mut ticks, handler)
+    run_event_loop(host, network, connections, &mut ticks, handler)
 }
 
 /// Listens at an address, says so, and answers the callers that come, many of them at once, by the system's clock and its draws. Faults: 81
 /// where the address can't be listened at, and then nothing is said; 83 where that couldn't be said, and then nobody is answered; 81 and 6
 /// as `serve_callers`.
-pub fn serve_at<R: Clock + System + Console, E: Ends, N: Network<E>, D: Handler + NamesCaller, W: Drain>(
+pub fn listen_and_run<R: Clock + System + Console, E: Ends, N: Network<E>, D: Handler + NamesCaller, W: Drain>(
     host: &Host<'_, R>,
     network: &mut N,
     options: &ServeOptions<'_>,
@@ -74,7 +74,7 @@ pub fn serve_at<R: Clock + System + Console, E: Ends, N: Network<E>, D: Handler 
         return Err(RunFault::Listen);
     };
     match say(writer, b"listening on ", options.text.as_bytes()) {
-        Ok(()) => serve_network::<Brand, R, E, N, D>(
+        Ok(()) => run_network::<Brand, R, E, N, D>(
             host,
             network,
             options.connections,
@@ -87,7 +87,7 @@ pub fn serve_at<R: Clock + System + Console, E: Ends, N: Network<E>, D: Handler 
 
 /// Listens where the line says, over the system's network, says so, and answers callers. Faults: 81 and 6 too where the network can't be
 /// opened, and then nothing is said.
-pub fn serve_tcp<
+pub fn run_over_tcp<
     R: Net<Listener = TcpListener, Stream = TcpStream> + Clock + System + Console,
     D: Handler + NamesCaller,
     W: Drain,
@@ -114,7 +114,7 @@ pub fn serve_tcp<
     };
     let host = Host::new(rt, alloc, log);
     match TcpNetwork::new(alloc, rt, poll, &registry) {
-        Ok(mut tcp_network) => serve_at(&host, &mut tcp_network, options, handler, writer),
+        Ok(mut tcp_network) => listen_and_run(&host, &mut tcp_network, options, handler, writer),
         Err(_) => Err(RunFault::Memory),
     }
 }

@@ -123,7 +123,7 @@ fn hear_all<
 
 // A round: hears what happened, and lets in who is at the door.
 #[tactic(auto, using(crate::proofs::RoundLemmas::happened_none))]
-fn serve_round<
+fn run_round<
     R: Clock + System + Console,
     E: Ends,
     N: Network<E>,
@@ -154,7 +154,7 @@ fn serve_round<
 }
 
 // Rounds, one after another, till all who were to be let in have come and gone.
-fn serve_rounds<
+fn run_rounds<
     R: Clock + System + Console,
     E: Ends,
     N: Network<E>,
@@ -178,7 +178,7 @@ fn serve_rounds<
         if server.is_over(network) {
             break;
         }
-        match serve_round(watch, network, server, context) {
+        match run_round(watch, network, server, context) {
             Ok(()) => {}
             Err(fault) => return Err(fault),
         }
@@ -188,7 +188,7 @@ fn serve_rounds<
 
 // Serves rounds, with room for what one read gives, and with a ledger for each count of the page on which answers are written.
 #[tactic(auto, using(crate::proofs::RoundLemmas::rounds_end, crate::proofs::RoundLemmas::happened_none, crate::proofs::RoundLemmas::hosts_none))]
-fn serve_with<
+fn run_with_ledgers<
     R: Clock + System + Console,
     E: Ends,
     N: Network<E>,
@@ -231,14 +231,14 @@ fn serve_with<
         return Err(RunFault::Memory);
     };
     let mut context = Context::new(host.alloc, &mut input, &mut out, ticks, handler);
-    serve_rounds(&mut watch, network, server, &mut context)
+    run_rounds(&mut watch, network, server, &mut context)
 }
 
 /// Answers so many callers, and for 0 without end, many of them at once. A caller that was gone before it was let in counts, and what becomes of one
 /// connection ends that connection alone. Each request is answered at a tick that was given for it. Faults: 6 where there is no memory for the house, and
 /// nobody is answered; 81 where no more callers can be let in, but for want of files or memory while somebody is there. The desk is told before
 /// each turn whose it is, and the log of each connection that ends.
-pub fn serve_callers<
+pub fn run_event_loop<
     R: Clock + System + Console,
     E: Ends,
     N: Network<E>,
@@ -257,7 +257,7 @@ pub fn serve_callers<
         (N.came network.old) (N.came network.new) result }
 {
     match Server::<R, E>::new(host.alloc, host.log, most_of(connections)) {
-        Ok(mut server) => serve_with::<R, E, N, Brand, Brand, T, D>(
+        Ok(mut server) => run_with_ledgers::<R, E, N, Brand, Brand, T, D>(
             host,
             network,
             &mut server,

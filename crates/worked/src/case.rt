@@ -4,7 +4,7 @@ ghost use Rattle.base_devices.specs.Blanks.{IsBlankOf};
 
 use crate::cut::Cut;
 use crate::listed::Listed;
-use app_run::serve_house;
+use app_run::run_memory_shop;
 use base_dates::read_moment;
 use base_devices::{Device, Drain, Source, Ticks};
 use base_values::{Moment, Steps};
@@ -41,7 +41,7 @@ impl Answers for Fresh {
         ticks: &mut T,
         writer: &mut W,
     ) -> Result<(), Failure> {
-        serve_house(alloc, reader, ticks, writer)
+        run_memory_shop(alloc, reader, ticks, writer)
     }
 }
 

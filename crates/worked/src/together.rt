@@ -21,7 +21,7 @@ use web_handler::{Office, ShopHandler};
 struct NewShops;
 
 // What callers are told at a desk, with a ledger for the failures of the clock.
-fn serve_with<M: Ledger, K: Handler>(
+fn run_together_with<M: Ledger, K: Handler>(
     alloc: Global,
     party: &Party<'_>,
     order: &[Next],
@@ -40,7 +40,7 @@ fn serve_with<M: Ledger, K: Handler>(
 }
 
 // What callers are told at a desk.
-fn serve_at<K: Handler>(
+fn run_together<K: Handler>(
     alloc: Global,
     party: &Party<'_>,
     order: &[Next],
@@ -49,11 +49,11 @@ fn serve_at<K: Handler>(
     let Ok((moments, _)) = moments(alloc, party.moments()) else {
         return Err(TogetherError::Unread);
     };
-    serve_with::<Brand, K>(alloc, party, order, moments.as_slice(), handler, Blank::new(1))
+    run_together_with::<Brand, K>(alloc, party, order, moments.as_slice(), handler, Blank::new(1))
 }
 
 // What callers are told by the shop of an office, over the tables that were opened with it.
-fn serve_shop<T: Tables + Drop, B: Dues + Drop>(
+fn run_shop_together<T: Tables + Drop, B: Dues + Drop>(
     alloc: Global,
     party: &Party<'_>,
     order: &[Next],
@@ -61,7 +61,7 @@ fn serve_shop<T: Tables + Drop, B: Dues + Drop>(
 ) -> Result<Vec<Vec<u8>>, TogetherError> {
     let (tables, office) = opened;
     let mut handler = ShopHandler::over(alloc, tables, office)?;
-    serve_at(alloc, party, order, &mut handler)
+    run_together(alloc, party, order, &mut handler)
 }
 
 impl Houses for NewShops {
@@ -72,7 +72,7 @@ impl Houses for NewShops {
         order: &[Next],
     ) -> Result<Vec<Vec<u8>>, TogetherError> {
         match open_memory(alloc) {
-            Ok(opened) => serve_shop(alloc, party, order, opened),
+            Ok(opened) => run_shop_together(alloc, party, order, opened),
             Err(_) => Err(TogetherError::Memory),
         }
     }

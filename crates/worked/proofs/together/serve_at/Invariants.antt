@@ -1,4 +1,4 @@
-use Rattle.worked.proofs.together.serve_at.Given as goal
+use Rattle.worked.proofs.together.run_together.Given as goal
 
-abbrev pub ghosts-serve_with : goal.ghosts-serve_with
-ghosts-serve_with g a = record { name = a.blank.name; parts = a.blank.parts }
+abbrev pub ghosts-run_together_with : goal.ghosts-run_together_with
+ghosts-run_together_with g a = record { name = a.blank.name; parts = a.blank.parts }

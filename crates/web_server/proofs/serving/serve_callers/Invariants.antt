@@ -1,7 +1,0 @@
-use Rattle.web_server.proofs.serving.serve_callers.Given as goal
-
-abbrev pub ghosts-serve_with-L-Ledger : goal.ghosts-serve_with-L-Ledger
-ghosts-serve_with-L-Ledger g a = record { name = a.blanks.0.name; parts = a.blanks.0.parts }
-
-abbrev pub ghosts-serve_with-M-Ledger : goal.ghosts-serve_with-M-Ledger
-ghosts-serve_with-M-Ledger g a = record { name = a.blanks.1.name; parts = a.blanks.1.parts }
