@@ -22,7 +22,7 @@ pub nobody_came : {D : Type 0} (Serves : D → Tick → Message → Answer → D
 nobody_came Serves at = (history_opens Serves at 0).connections
 
 module _ {S : Type 0} (reads : Option Tick → Type 0) (tables : Meaning (SqlTables S)) (most : ℕ) where
-  -- the desk of words that were made of an office's names is the office's
+  -- the handler of words that were made of an office's names is the office's
   pub leads_by_names : (it : SqlTables S) (handler : HandlerView (SqlTables S)) (organizer event said_organizer said_event : List ℕ) (state : State) (left : Connection S) (outcome : Result (Unit {0}) RunFault)
       → handler ≡ handler_with it said_organizer said_event state → said_organizer ≡ organizer → said_event ≡ event
       → LeadsFrom reads tables most handler left outcome → LeadsFrom reads tables most (handler_with it organizer event state) left outcome

@@ -25,7 +25,7 @@ unfolding served_of
 answers_by Serves Other most old new seen left (Ok u) served connections = record { came = served.came; within = served.within; all = served.all; connections = connections; begun = served.begun; told = served.told; among = served.among }
 answers_by Serves Other most old new seen left (Err fault) (served, ends) connections = (record { came = served.came; within = served.within; all = served.all; connections = connections; begun = served.begun; told = served.told; among = served.among }, ends)
 
--- the same desk runs so
+-- the same handler runs so
 pub runs_as : {T : Type 0} (tables : Meaning T) (house : House) (begun : Running) (events : List Event) (handler other : HandlerView T) (r : Running) → other ≡ handler
     → RunsSo tables house begun events handler r → RunsSo tables house begun events other r
 runs_as {T} tables house begun events handler other r same x = subst (λ (d : HandlerView T). RunsSo tables house begun events d r) (sym same) x

@@ -33,7 +33,7 @@ abbrev pub told_of : Answer → Result (List ℕ) RunFault
 told_of (Decided response) = Ok response.body
 told_of Unavailable = Err faults.Store
 
--- The command is an arrival of this tick. It is answered like any other, and what it did is told. The desk is one of the same house, and
+-- The command is an arrival of this tick. It is answered like any other, and what it did is told. The handler is one of the same house, and
 -- stands for the list of arrivals with this one behind it; where it was running it is running. Where it was answered 503 its office is as it
 -- was, whatever became of its tables. A crash leaves what one before it could have left, or the whole of it, which is sound; and once what it
 -- did is told, only that.
@@ -56,7 +56,7 @@ pub record Acts {T : Type 0} (words : Reply → Response) (command : Command) (t
   pub settled : tables.sure last.tables → IsDecided answer ((v : ShopView) → Views tables.holds first.tables first.state v → executes (own_arrival command tick) v ≡ true
       → (left : ShopView) → tables.may_leave last.tables left → IsSame left (arrival_served words (own_arrival command tick) v).0)
 
--- from this desk the command is carried out at the tick that is read of the system, or none can be read, and nothing is done
+-- from this handler the command is carried out at the tick that is read of the system, or none can be read, and nothing is done
 pub record ActsFrom {S : Type 0} (reads : Option Tick → Type 0) (words : Reply → Response) (command : Command) (tables : Meaning (SqlTables S)) (first : HandlerView (SqlTables S)) (left : Connection S) (outcome : Result (List ℕ) RunFault) : Type 0 where
   pub last : HandlerView (SqlTables S)
   pub act : ((tick : Tick) × reads (Some tick) × Acts words command tick tables first last outcome) ⊎ (reads None × (outcome ≡ Err (faults.Run failures.Clock)) × (last ≡ first))

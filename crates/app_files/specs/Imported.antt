@@ -47,7 +47,7 @@ abbrev pub AddsFrom : {S : Type 0} → (Option Tick → Type 0) → Meaning (Sql
 AddsFrom reads tables (Ok text) handler left outcome = ((read : Result (List NewVoucher) FileFault) × IsFile text read × AddsRead reads tables read handler left outcome) ⊎ AddsNothing faults.Memory handler left outcome
 AddsFrom reads tables (Err fault) handler left outcome = AddsNothing fault handler left outcome
 
--- the vouchers of a file are added to the shop in the database, at the desk that it is opened as
+-- the vouchers of a file are added to the shop in the database, at the handler that it is opened as
 pub record IsOpenedAndImported {S : Type 0} (reads : Option Tick → Type 0) (g : Ghosts S) (tables : Meaning (SqlTables S)) (source : Result (List ℕ) RunFault) (old : Connected) (left : Connection S) (outcome : Result (List ℕ) RunFault) : Type 0 where
   pub handler : HandlerView (SqlTables S)
   pub opens : OpensAs g old handler

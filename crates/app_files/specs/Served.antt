@@ -22,11 +22,11 @@ use Rattle.web_connections.specs.Acts.{between}
 use Rattle.app_files.specs.Faults.{fault_of_opening}
 use Rattle.app_files.specs.declared.filed.Opened.{Opened}
 
--- the desk of a shop that was opened
+-- the handler of a shop that was opened
 abbrev pub handler_of : {S B : Type 0} → Opened S B → HandlerView (SqlTables S)
 handler_of opened = handler_with opened.tables opened.office.organizer opened.office.event opened.office.state
 
--- The desk is that of the shop in the database: where the disk returned what was written and the connection was open, its tables and its
+-- The handler is that of the shop in the database: where the disk returned what was written and the connection was open, its tables and its
 -- office are what the rows are opened as. The tables are of this version, the office is sound, and opening changed nothing, in a crash too.
 pub record OpensAs {S : Type 0} (g : Ghosts S) (old : Connected) (handler : HandlerView (SqlTables S)) : Type 0 where
   pub opened : HasCleanDisk (state g handler.tables.connection) → (db : Database) → IsOpenAt db old → db.schema ≡ schema
@@ -39,14 +39,14 @@ pub record OpensAs {S : Type 0} (g : Ghosts S) (old : Connected) (handler : Hand
   pub rests : Rests old (state g handler.tables.connection)
   pub crash : Survives old (state g handler.tables.connection) (λ _. ⊥)
 
--- from this desk callers are answered, at most so many, each request at a tick that was read of the system; and the connection is that of the
--- desk as they left it
+-- from this handler callers are answered, at most so many, each request at a tick that was read of the system; and the connection is that of the
+-- handler as they left it
 pub record LeadsFrom {S : Type 0} (reads : Option Tick → Type 0) (tables : Meaning (SqlTables S)) (most : ℕ) (first : HandlerView (SqlTables S)) (left : Connection S) (outcome : Result (Unit {0}) RunFault) : Type 0 where
   pub last : HandlerView (SqlTables S)
   pub serving : AnswersCallers (AtTick reads (Serves tables)) (most_of most) (between None first) (between None last) None None outcome
   pub connection : left ≡ last.tables.connection
 
--- the shop in the database is served, from the desk that it is opened as
+-- the shop in the database is served, from the handler that it is opened as
 pub record IsOpenedAndServed {S : Type 0} (reads : Option Tick → Type 0) (g : Ghosts S) (tables : Meaning (SqlTables S)) (most : ℕ) (old : Connected) (left : Connection S) (outcome : Result (Unit {0}) RunFault) : Type 0 where
   pub handler : HandlerView (SqlTables S)
   pub opens : OpensAs g old handler

@@ -29,7 +29,7 @@ work_body _ = untold
 abbrev pub work_words : Reply → Response
 work_words reply = record { status = 200; allow = None; body = work_body reply }
 
--- the periodic work of the shop in the database is done, at the desk that it is opened as and the tick that is read
+-- the periodic work of the shop in the database is done, at the handler that it is opened as and the tick that is read
 pub record IsOpenedAndWorked {S : Type 0} (reads : Option Tick → Type 0) (g : Ghosts S) (tables : Meaning (SqlTables S)) (old : Connected) (left : Connection S) (outcome : Result (List ℕ) RunFault) : Type 0 where
   pub handler : HandlerView (SqlTables S)
   pub opens : OpensAs g old handler

@@ -51,7 +51,7 @@ use office_deliveries::laws::shops_run_in_any_words;
 use sqlite::{Alter, Connection};
 use web_callers::laws::{callers_are_told_once, callers_go_on_with_a_history, callers_run_on};
 
-/// A shop that was running has answered callers, and the machine stops; its file is opened again. It is the desk of the same house: the
+/// A shop that was running has answered callers, and the machine stops; its file is opened again. It is the handler of the same house: the
 /// same names, the same tokens by their numbers, the same next one. It is running again, as it was or with one write carried out that had
 /// no answer; so what is said of callers goes on from there (`callers_run_on`), however often that happens. Where it isn't opened, that is
 /// for want of memory or because the store fails, and never told as 60, 61 or 62.

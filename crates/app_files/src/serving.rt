@@ -21,7 +21,7 @@ use web_cli::{Console, ServeOptions, RunFault};
 use web_handler::{HttpWording, ShopHandler};
 use web_server::{Log, Logged, System, run_over_tcp};
 
-// Serves a desk, and hands back the connection of its tables.
+// Serves a handler, and hands back the connection of its tables.
 fn serve_handler<
     R: Net<Listener = TcpListener, Stream = TcpStream> + Clock + System + Console,
     S: Alter + Drop,

@@ -1,4 +1,4 @@
--- A desk that `feed` begins with, as a shop and as one that stands for no arrivals; and what is told of a run from it.
+-- A handler that `feed` begins with, as a shop and as one that stands for no arrivals; and what is told of a run from it.
 use Rattle.std.proofs.Common.{◌≡◌, inl, inr, ℕ, List, [], Result, Err, sym, subst₂}
 use Rattle.sqlite_trees.specs.declared.store.Store.{Ghosts}
 use Rattle.base_values.specs.declared.answer.Answer.{Answer}
@@ -47,7 +47,7 @@ module _ {T : Type 0} (tables : Meaning T) (first : HandlerView T) (from step : 
 
 -- ---- `feed` itself, over SQLite's memory
 
--- the desk of a shop that was just opened
+-- the handler of a shop that was just opened
 pub handler_is_fresh : {S : Type 0} (g : Ghosts S) (tables : SqlTables S) (organizer event : List ℕ) (office : State) → IsFreshShop g tables organizer event office → IsFresh (in_store g) (handler_with tables organizer event office)
 handler_is_fresh g tables organizer event office fresh = record {
   of = record { organizer = fresh.organizer_is; event = fresh.event_is; known = fresh.knows };

@@ -28,7 +28,7 @@ LeadsShop from step count old new shop result = RunLeads (ServesAndKeeps feed_ho
 abbrev pub LeadsList : ℕ → ℕ → ℕ → Ports → Ports → List Delivery → Result (Unit {0}) Failure → Type 0
 LeadsList from step count old new arrivals result = RunLeads (ServesList feed_house fresh_opening) (devices old [] []) (devices new (feed_ticks from step count) arrivals) result
 
--- of a run that makes its desk itself, none is seen before or after
+-- of a run that makes its handler itself, none is seen before or after
 abbrev pub no_handler : Unit {0}
 no_handler = tt
 

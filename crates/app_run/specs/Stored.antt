@@ -46,6 +46,6 @@ in_store g = meaning (λ t. HasCleanDisk (state g t.connection)) (λ t s ks. Hol
 abbrev pub in_memory : Meaning (SqlTables MemStore)
 in_memory = in_store over_memory
 
--- a desk over tables there
+-- a handler over tables there
 abbrev pub MemoryHandler : Type 0
 MemoryHandler = HandlerView (SqlTables MemStore)

@@ -1,4 +1,4 @@
--- Who comes to a place.
+-- Who comes to a slot.
 use Rattle.std.proofs.Common.{◌≡◌, inl, inr, List, [], ◌∷◌, ℕ, Option, Result, Ok, Err, OnOk, OnErr, refl}
 use Rattle.web_sockets.specs.Accepting.{Begun, as_begun}
 use Rattle.web_connections.specs.Exchanges.{connection_begun}

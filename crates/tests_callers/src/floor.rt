@@ -1,4 +1,4 @@
-//! A hall, who is in it, and what those who left were told.
+//! The connections, who is in it, and what those who left were told.
 
 use crate::party::Guest;
 use crate::turns::take_turns;
@@ -9,7 +9,7 @@ use web_connection::Handler;
 use web_sockets::Script;
 use web_connections::{Context, Connections, Next};
 
-/// A hall over memory, who is still to come, the last of them first, and what each caller was told who left.
+/// The connections over memory, who is still to come, the last of them first, and what each caller was told who left.
 #[derive(Drop)]
 pub(crate) struct Floor<'a> {
     connections: Connections<Script<'a>>,
@@ -41,7 +41,7 @@ fn empty_texts(alloc: Global, count: usize) -> Result<Vec<Vec<u8>>, AllocError> 
 }
 
 impl<'a> Floor<'a> {
-    /// A hall of so many places, to which these are to come.
+    /// The connections of so many slots, to which these are to come.
     pub(crate) fn new(
         alloc: Global,
         slots: usize,
@@ -53,7 +53,7 @@ impl<'a> Floor<'a> {
         Ok(Floor { connections, callers_to_come, told })
     }
 
-    // Whoever is at a place leaves. What it was told is kept under its number.
+    // Whoever is at a slot leaves. What it was told is kept under its number.
     fn leave(&mut self, slot: usize) {
         let number = self.connections.number(slot).unwrap_or(0) as usize;
         if let Some(script) = self.connections.leave(slot)

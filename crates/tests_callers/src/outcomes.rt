@@ -30,7 +30,7 @@ pub(crate) fn outcomes(alloc: Global, text: &str) -> Result<Vec<Outcome<'_>>, Al
     Ok(all)
 }
 
-/// How often each outcome came, by its place, and how often none of them.
+/// How often each outcome came, by its slot, and how often none of them.
 #[derive(Drop)]
 pub(crate) struct Tally {
     pub(crate) counts: Vec<u64>,
@@ -46,7 +46,7 @@ impl Tally {
         })
     }
 
-    // Counts the outcome at a place, or none.
+    // Counts the outcome at a slot, or none.
     fn add(&mut self, at: Option<usize>) {
         let Some(at) = at else {
             self.otherwise = self.otherwise.saturating_add(1);

@@ -22,7 +22,7 @@ pub(crate) struct Plan {
     pub(crate) last: Vec<Next>,
 }
 
-/// Callers, in the order in which they come, and the house that they come to.
+/// Callers, in the order in which they come, and the server that they come to.
 #[derive(Drop)]
 pub struct Party<'a> {
     pub(crate) moments: &'a str,
@@ -74,7 +74,7 @@ pub(crate) fn plan_of(alloc: Global, text: &str) -> Result<Plan, TogetherError> 
     })
 }
 
-/// The callers of a text, whose house has so many places; requests come at these moments.
+/// The callers of a text, whose server has so many slots; requests come at these moments.
 pub(crate) fn party_of<'a>(
     alloc: Global,
     slots: &str,

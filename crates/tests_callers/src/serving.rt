@@ -1,4 +1,4 @@
-//! Callers at a desk.
+//! Callers at a handler.
 
 ghost use Rattle.base_devices.specs.Blanks.{IsBlankOf};
 
@@ -25,7 +25,7 @@ fn go_on<L: Ledger, M: Ledger, T: Ticks, D: Handler>(
 }
 
 impl Party<'_> {
-    // Serves the callers in this order, with a ledger for each count of the page.
+    // Serves the callers in this order, with a ledger for each count of the output.
     fn run_plan_with<L: Ledger, M: Ledger, T: Ticks, D: Handler>(
         &self,
         alloc: Global,
@@ -49,7 +49,7 @@ impl Party<'_> {
         Ok(floor.close())
     }
 
-    /// What the callers are told at a desk, each by its number, where all that happens is this, one after another.
+    /// What the callers are told at a handler, each by its number, where all that happens is this, one after another.
     pub fn serve<T: Ticks, D: Handler>(
         &self,
         alloc: Global,

@@ -12,7 +12,7 @@ use web_connections::Next;
 
 /// What makes houses.
 pub trait Houses {
-    /// What callers are told by a new house, each by its number, where all that happens is this, one after another.
+    /// What callers are told by a new server, each by its number, where all that happens is this, one after another.
     fn serve(
         &self,
         alloc: Global,
@@ -70,7 +70,7 @@ fn tell(
     Ok(text)
 }
 
-/// What comes of the callers that a text has, with a `~` between its parts: how many places the house has; the moments of requests; the callers;
+/// What comes of the callers that a text has, with a `~` between its parts: how many slots the server has; the moments of requests; the callers;
 /// what they do, in four lines; and all that they may be told. How often each of that came, over every order of what the two lines in the middle
 /// say.
 pub fn together_told<H: Houses>(

@@ -13,7 +13,7 @@ use web_connection::Handler;
 use web_sockets::Ends;
 use web_connections::{Context, Connections, Next};
 
-// The last of those who are to come, to a place that is free.
+// The last of those who are to come, to a slot that is free.
 #[tactic(auto, using(crate::proofs::ComeLemmas::nobody_came, crate::proofs::ComeLemmas::one_came))]
 fn accept_next<E: Ends>(alloc: Global, connections: &mut Connections<E>, callers_to_come: &mut Vec<E>)
     ensures { (came : List Begun) × AcceptsOne came connections.old connections.new }
@@ -50,7 +50,7 @@ fn do_next<E: Ends, L: Ledger, M: Ledger, T: Ticks, D: Handler>(
     }
 }
 
-/// Callers come, have turns and leave, in whatever order, at one desk. Nobody comes where nobody is left who may, where no place is free, or
+/// Callers come, have turns and leave, in whatever order, at one handler. Nobody comes where nobody is left who may, where no slot is free, or
 /// where there is no memory for one more.
 pub fn take_turns<E: Ends, L: Ledger, M: Ledger, T: Ticks, D: Handler>(
     context: &mut Context<'_, L, M, T, D>,

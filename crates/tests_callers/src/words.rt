@@ -23,7 +23,7 @@ pub(crate) fn numbers(alloc: Global, line: &str) -> Result<Vec<usize>, TogetherE
     Ok(all)
 }
 
-// What a word says is next: a `+` that somebody comes, a number that whoever is at that place has a turn, and a `-` before it that whoever is
+// What a word says is next: a `+` that somebody comes, a number that whoever is at that slot has a turn, and a `-` before it that whoever is
 // there leaves.
 fn next_of(word: &str) -> Result<Next, TogetherError> {
     if word == "+" {

@@ -1,4 +1,4 @@
--- A desk's runs over a stream, as a shop and as a list of arrivals see them.
+-- A handler's runs over a stream, as a shop and as a list of arrivals see them.
 use Rattle.std.proofs.Common.{◌≡◌, ℕ, List, [], ◌∷◌, ◌++◌, Option, Result, Ok, Err, refl, sym, ap, ap₂, ◌∙◌, subst, append-nil}
 use Rattle.base_values.specs.declared.answer.Answer.{Answer}
 use Rattle.base_values.specs.declared.answer.Answer.TheVariants.{Decided, Unavailable}
@@ -38,7 +38,7 @@ module _ {T : Type 0} (tables : Meaning T) (house : House) where
     known = (once-of old t m answer new is sure serves).house house is.known;
   }
 
-  -- a desk of this house that is seen so
+  -- a handler of this house that is seen so
   pub record IsSeen {E : Type 0} (Rel : HandlerView T → E → Type 0) (d : HandlerView T) (seen : E) : Type 0 where
     pub of : IsOf tables house d
     pub rel : Rel d seen
@@ -70,7 +70,7 @@ module _ {T : Type 0} (tables : Meaning T) (house : House) where
         let x = run_follows (AtTick reads (Serves tables)) (AtTick reads Other) (λ (d : HandlerView T). tables.sure d.tables) (IsSeen Rel) at old new result seen run sure (record { of = is; rel = rel }) in
         (x.0, x.1, x.2.of, x.2.rel)
 
-  -- a message, as those see it that follow the desk in this way
+  -- a message, as those see it that follow the handler in this way
   abbrev pub Once : {E : Type 0} → (HandlerView T → E → Type 0) → (E → Tick → Message → Answer → E → Type 0) → Type 0
   Once {E = E} Rel Other = (old : HandlerView T) (t : Tick) (m : Message) (answer : Answer) (new : HandlerView T) (seen : E) → ServesOnce tables (words_of house) old (arrival house t m) answer new → Rel old seen
       → (left : E) × Other seen t m answer left × Rel new left

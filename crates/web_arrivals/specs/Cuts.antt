@@ -7,7 +7,7 @@ use Rattle.web_arrivals.specs.HandlerView.{HandlerView, House, IsOf, Meaning}
 use Rattle.web_arrivals.specs.Seen.{HasShop}
 use Rattle.web_arrivals.specs.Streams.{Decides}
 
--- A run of a desk of this house from this shop ends well, and nothing in it is answered 503. These bytes are to come, these ticks
+-- A run of a handler of this house from this shop ends well, and nothing in it is answered 503. These bytes are to come, these ticks
 -- were given before, and this was written before.
 pub record RunsWhole {T : Type 0} (tables : Meaning T) (house : House) (shop : ShopView) (bytes : List ℕ) (ticks : List Tick) (written : List ℕ) (old new : Devices (HandlerView T)) : Type 0 where
   pub run : RunLeads (Decides tables) old new (Ok tt)

@@ -1,4 +1,4 @@
--- What a contract sees of the desk of a shop.
+-- What a contract sees of the handler of a shop.
 use Rattle.std.specs.Prelude.{◌≡◌, ℕ, List}
 use Rattle.base_values.specs.declared.answer.Response.{Response}
 use Rattle.model_rows.specs.Lists.{State}
@@ -31,7 +31,7 @@ meaning sure holds knows may_leave = record { sure = sure; holds = holds; knows 
 abbrev pub trait_meaning : {T : Type 0} → Ghosts T → Meaning T
 trait_meaning g = meaning g.sure g.holds g.knows g.may_leave
 
--- by what a message is read at a desk: its own names, and the tokens of the house that its tables know
+-- by what a message is read at a handler: its own names, and the tokens of the house that its tables know
 abbrev pub house_of : {T : Type 0} → HandlerView T → House → House
 house_of handler house = record house { organizer = handler.organizer; event = handler.event }
 
@@ -39,16 +39,16 @@ house_of handler house = record house { organizer = handler.organizer; event = h
 abbrev pub words_of : House → Reply → Response
 words_of house = words house.organizer house.event
 
--- what a reply is told at a desk
+-- what a reply is told at a handler
 abbrev pub reply_worded : {T : Type 0} → HandlerView T → Reply → Response
 reply_worded handler = words handler.organizer handler.event
 
--- a desk of this house, which its tables know too
+-- a handler of this house, which its tables know too
 pub record IsOf {T : Type 0} (tables : Meaning T) (house : House) (handler : HandlerView T) : Type 0 where
   pub organizer : handler.organizer ≡ house.organizer
   pub event : handler.event ≡ house.event
   pub known : tables.knows handler.tables house
 
--- the desk of an office over tables
+-- the handler of an office over tables
 abbrev pub handler_with : {T : Type 0} → T → List ℕ → List ℕ → State → HandlerView T
 handler_with tables organizer event state = record { organizer = organizer; event = event; tables = tables; state = state }

@@ -1,4 +1,4 @@
--- What the desk of a shop does with one message, and what it answers.
+-- What the handler of a shop does with one message, and what it answers.
 use Rattle.std.specs.Prelude.{◌≡◌, ⊤, List, [], ◌∷◌, ◌++◌, Result, Ok, Err}
 use Rattle.base_values.specs.declared.answer.Answer.{Answer}
 use Rattle.base_values.specs.declared.answer.Answer.TheVariants.{Decided, Unavailable}
@@ -54,7 +54,7 @@ pub record ServesOnce {T : Type 0} (tables : Meaning T) (words : Reply → Respo
   pub house : (house : House) → tables.knows old.tables house → tables.knows new.tables house
   pub fit : IsFitComing coming answer
 
--- A desk keeps its names, and where it answers 503 its office, whatever became of its tables. Where these are sure after a message they
+-- A handler keeps its names, and where it answers 503 its office, whatever became of its tables. Where these are sure after a message they
 -- were so before it, and the message is served once, as the arrival that it is by the house that they know.
 pub record Serves {T : Type 0} (tables : Meaning T) (old : HandlerView T) (tick : Tick) (m : Message) (answer : Answer) (new : HandlerView T) : Type 0 where
   pub organizer : new.organizer ≡ old.organizer

@@ -1,4 +1,4 @@
--- A hall, as a list of arrivals, a running shop, a history and its rows see it.
+-- The connections, as a list of arrivals, a running shop, a history and its rows see it.
 use Rattle.std.proofs.Common.{ℕ, List, Option}
 use Rattle.base_values.specs.declared.answer.Answer.{Answer}
 use Rattle.base_devices.specs.declared.device.Tick.{Tick}
@@ -21,7 +21,7 @@ module _ {T : Type 0} (tables : Meaning T) (house : House) where
   abbrev IsSure : HandlerView T → Type 0
   IsSure d = tables.sure d.tables
 
-  -- whoever follows the desk in this way follows it message by message
+  -- whoever follows the handler in this way follows it message by message
   follows : {E : Type 0} (Rel : HandlerView T → E → Type 0) (Other : E → Tick → Message → Answer → E → Type 0) → Once tables house Rel Other
       → Follows (Serves tables) Other IsSure (IsSeen tables house Rel)
   follows Rel Other one = record {
@@ -33,7 +33,7 @@ module _ {T : Type 0} (tables : Meaning T) (house : House) where
 
 module _ {T : Type 0} (tables : Meaning T) (reads : Option Tick → Type 0) (house : House) (came : ℕ) (old new : Between (HandlerView T)) (all : History)
     (connections : Connections (AtTick reads (Serves tables)) came old new all) (is_sure : tables.sure new.handler.tables) (of : IsOf tables house old.handler) where
-  -- as those see them that follow the desk message by message
+  -- as those see them that follow the handler message by message
   seen : {E : Type 0} (Rel : HandlerView T → E → Type 0) (Other : E → Tick → Message → Answer → E → Type 0) → Once tables house Rel Other → (first : E) → Rel old.handler first
       → (last : E) × Connections (AtTick reads Other) came (seen_at old first) (seen_at new last) all × IsOf tables house new.handler × Rel new.handler last
   seen Rel Other once first rel =

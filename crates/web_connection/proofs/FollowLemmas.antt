@@ -1,4 +1,4 @@
--- A desk that follows another one message by message follows it through runs.
+-- A handler that follows another one message by message follows it through runs.
 use Rattle.std.proofs.Common.{◌≡◌, ℕ, List, [], ◌∷◌, ◌++◌, map, Option, Result, Ok, Err, refl, sym, subst}
 use Rattle.base_values.specs.declared.answer.Answer.{Answer}
 use Rattle.base_devices.specs.declared.device.Tick.{Tick}
@@ -7,7 +7,7 @@ use Rattle.web_connection.specs.declared.failure.Failure.{Failure}
 use Rattle.web_connection.specs.declared.failure.Failure.TheVariants as failures
 use Rattle.web_connection.specs.Run.{AtTick, Item, Runs, Cursor, cursor, Progress, Finished, CutOff, Stopped, BreaksOff, Streams, Devices, with_handler, RunLeads}
 
--- A desk follows another one, as long as it is sure: of each message that it answers the other one gives the same answer, and
+-- A handler follows another one, as long as it is sure: of each message that it answers the other one gives the same answer, and
 -- as what it was seen before, so it is seen after. Where it is sure after a message, it was so before.
 pub record Follows {D E : Type 0} (Serves : D → Tick → Message → Answer → D → Type 0) (Other : E → Tick → Message → Answer → E → Type 0) (Sure : D → Type 0) (Seen : D → E → Type 0) : Type 0 where
   pub was_sure : (old : D) (tick : Tick) (m : Message) (answer : Answer) (new : D) → Serves old tick m answer new → Sure new → Sure old
@@ -22,11 +22,11 @@ follows_at reads Serves Other Sure Seen follows = record {
   one = λ old tick m answer new seen serves sure is. let x = follows.one old tick m answer new seen serves.1 sure is in (x.0, (serves.0, x.1), x.2);
 }
 
--- a place in a run with another desk there
+-- a place in a run with another handler there
 abbrev pub seen_as : {D E : Type 0} → Cursor D → E → Cursor E
 seen_as place handler = cursor place.left place.told handler place.taken
 
--- where a desk is sure after a run, it was so before it
+-- where a handler is sure after a run, it was so before it
 module _ {D : Type 0} (Serves : D → Tick → Message → Answer → D → Type 0) (Sure : D → Type 0)
     (was_sure : (old : D) (tick : Tick) (m : Message) (answer : Answer) (new : D) → Serves old tick m answer new → Sure new → Sure old) where
   runs_sure : (old : D) (ticks : List Tick) (items : List Item) (written : List ℕ) (new : D) → Runs Serves old ticks items written new → Sure new → Sure old

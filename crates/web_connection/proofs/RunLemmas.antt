@@ -151,7 +151,7 @@ module _ {D : Type 0} (Serves : D → Tick → Message → Answer → D → Type
   pub broken_more : (e : Failure) (p q r : Cursor D) → Progress Serves p q → Broken Serves e q r → Broken Serves e p r
   broken_more e p q r x y = record { mid = y.mid; before = progress_more p q y.mid x y.before; last = y.last }
 
-  -- a piece that comes after the bytes
+  -- a read buffer that comes after the bytes
   pub progress_feed : (b l : List ℕ) (input : List ℕ) (t t' : Option (List Tick)) (d d' : D) (w w' : Option (List ℕ))
       → Progress Serves (cursor b t d w) (cursor l t' d' w') → Progress Serves (cursor (b ++ input) t d w) (cursor (l ++ input) t' d' w')
   progress_feed b l input t t' d d' w w' x = record {

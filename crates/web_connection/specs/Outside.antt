@@ -22,18 +22,18 @@ abbrev pub outside : {R T W : Type 0} → source.Ghosts R → clock.Ghosts T →
 outside r t w reader ticks writer =
     record { left = r.left reader; told = t.told ticks; taken = w.taken writer; counts = device_counts r t w reader ticks writer }
 
--- the devices of reader, clock and writer, with a desk among them
+-- the devices of reader, clock and writer, with a handler among them
 abbrev pub devices_of : {D : Type 0} → D → Outside → Devices D
 devices_of handler now = record { left = now.left; calls = now.counts.calls; told = now.told; handler = handler; taken = now.taken }
 
--- A run over a stream, from one desk to another: what was read, told and written is of one run over the bytes that came; how it ended is
+-- A run over a stream, from one handler to another: what was read, told and written is of one run over the bytes that came; how it ended is
 -- what a device has counted; and the reader was called so often at most.
 pub record RunsOver {D : Type 0} (Serves : D → Tick → Message → Answer → D → Type 0) (first last : D) (old new : Outside) (result : Result (Unit {0}) Failure) : Type 0 where
   pub leads : RunLeads Serves (devices_of first old) (devices_of last new) result
   pub counted : CountedAll result old.counts new.counts
   pub calls : new.counts.calls ≤ old.counts.calls + most_reads
 
--- A run over a stream, from a desk that is there for this stream alone: what was read, told and written is of a single run over the bytes
+-- A run over a stream, from a handler that is there for this stream alone: what was read, told and written is of a single run over the bytes
 -- that came; how it ended is what a device has counted; and the reader was called so often at most.
 pub record RunsFrom {D : Type 0} (Serves : D → Tick → Message → Answer → D → Type 0) (first : D) (old new : Outside) (result : Result (Unit {0}) Failure) : Type 0 where
   pub leads : (last : D) × RunLeads Serves (devices_of first old) (devices_of last new) result

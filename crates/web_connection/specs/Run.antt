@@ -1,4 +1,4 @@
--- A run of a desk over the messages of a stream.
+-- A run of a handler over the messages of a stream.
 use Rattle.std.specs.Prelude.{◌≡◌, ℕ, ◌+◌, ◌-◌, ◌*◌, ◌<◌, ◌≤◌, ◌⊎◌, Bool, List, [], ◌∷◌, ◌++◌, length, map, Option, Some, Result, Ok, Err, true, false}
 use Rattle.std.specs.Io.KnownBytes.{IsAtEnd}
 use Rattle.base_values.specs.declared.answer.Answer.{Answer}
@@ -20,8 +20,8 @@ use Rattle.web_connection.specs.declared.failure.Step.TheVariants as steps
 abbrev pub Item : Type 0
 Item = Result Message FrameFault
 
--- A run from one desk to another, with what is written: one tick and one answer for each message, in order, and the
--- text of each answer, one after another, and nothing else. A fault takes no tick, and leaves the desk as it is.
+-- A run from one handler to another, with what is written: one tick and one answer for each message, in order, and the
+-- text of each answer, one after another, and nothing else. A fault takes no tick, and leaves the handler as it is.
 abbrev pub Runs : {D : Type 0} → (D → Tick → Message → Answer → D → Type 0) → D → List Tick → List Item → List ℕ → D → Type 0
 Runs Serves d [] [] written e = (written ≡ []) × (e ≡ d)
 Runs Serves d [] (Err f ∷ items) written e = (written ≡ fault_text f) × (e ≡ d) × (items ≡ [])
@@ -31,7 +31,7 @@ Runs Serves d (t ∷ ts) (Err f ∷ items) written e = ⊥
 Runs {D} Serves d (t ∷ ts) (Ok m ∷ items) written e =
     (mid : D) × (answer : Answer) × (rest : List ℕ) × Serves d t m answer mid × (written ≡ text answer (closes m) ++ rest) × Runs Serves mid ts items rest e
 
--- a desk serves a message at a tick of which this is known
+-- a handler serves a message at a tick of which this is known
 abbrev pub AtTick : {D : Type 0} → (Option Tick → Type 0) → (D → Tick → Message → Answer → D → Type 0) → D → Tick → Message → Answer → D → Type 0
 AtTick reads Serves old tick m answer new = reads (Some tick) × Serves old tick m answer new
 
@@ -54,14 +54,14 @@ AreAlways bytes items = (more : List ℕ) → Messages (bytes ++ more) items
 abbrev pub AreAll : List ℕ → Option (List ℕ) → List Item → Type 0
 AreAll bytes after items = AreAlways bytes items ⊎ (Messages bytes items × IsAtEnd after)
 
--- where a run stands: the bytes not yet taken, the ticks that were told, the desk, and what was written
+-- where a run stands: the bytes not yet taken, the ticks that were told, the handler, and what was written
 pub record Cursor (D : Type 0) : Type 0 where
   pub left : List ℕ
   pub told : Option (List Tick)
   pub handler : D
   pub taken : Option (List ℕ)
 
--- the cursor with these bytes left, these ticks, this desk and what was written
+-- the cursor with these bytes left, these ticks, this handler and what was written
 abbrev pub cursor : {D : Type 0} → List ℕ → Option (List Tick) → D → Option (List ℕ) → Cursor D
 cursor left told handler taken = record { left = left; told = told; handler = handler; taken = taken }
 
@@ -104,7 +104,7 @@ IsReadBuffer input = (0 < length input) × (length input ≤ 65536)
 abbrev pub LosesRead : List ℕ → Type 0
 LosesRead bytes = (waiting : List ℕ) × (input : List ℕ) × (bytes ≡ waiting ++ input) × HasNone waiting × (length input ≤ 65536)
 
--- nothing more was told or written, and the desk is as it was
+-- nothing more was told or written, and the handler is as it was
 pub record Stopped {D : Type 0} (old new : Cursor D) : Type 0 where
   pub told : Adds old.told [] new.told
   pub taken : Adds old.taken [] new.taken
@@ -146,8 +146,8 @@ abbrev pub Streams : {D : Type 0} → (D → Tick → Message → Answer → D �
 Streams Serves after old new (Ok u) = Finished Serves (AreAll old.left after) old new
 Streams Serves after old new (Err e) = Broken Serves e old new
 
--- where the devices of a run and its desk stand: what the reader still has, where that is known, and the calls that were made of
--- it; the ticks that were told; the desk; and what was written
+-- where the devices of a run and its handler stand: what the reader still has, where that is known, and the calls that were made of
+-- it; the ticks that were told; the handler; and what was written
 pub record Devices (D : Type 0) : Type 0 where
   pub left : Option (List ℕ)
   pub calls : ℕ
@@ -155,12 +155,12 @@ pub record Devices (D : Type 0) : Type 0 where
   pub handler : D
   pub taken : Option (List ℕ)
 
--- where this reader, this clock, this desk and this writer stand
+-- where this reader, this clock, this handler and this writer stand
 abbrev pub devices_at : {R T D W : Type 0} → source.Ghosts R → clock.Ghosts T → drain.Ghosts W → R → T → D → W → Devices D
 devices_at r t w reader ticks handler writer =
     record { left = r.left reader; calls = r.calls reader; told = t.told ticks; handler = handler; taken = w.taken writer }
 
--- the devices with another desk among them
+-- the devices with another handler among them
 abbrev pub with_handler : {D E : Type 0} → Devices D → E → Devices E
 with_handler devices handler = record { left = devices.left; calls = devices.calls; told = devices.told; handler = handler; taken = devices.taken }
 

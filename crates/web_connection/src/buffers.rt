@@ -32,7 +32,7 @@ pub fn blank(alloc: Global, size: usize) -> Result<Vec<u8>, AllocError>
 }
 
 impl ReadBuffer {
-    /// A piece of 65,536 bytes.
+    /// A read buffer of 65,536 bytes.
     pub fn new(alloc: Global) -> Result<ReadBuffer, AllocError>
         ensures { IfOk result (λ input. length input.bytes.items ≡ 65536) }
     {

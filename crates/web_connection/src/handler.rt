@@ -11,7 +11,7 @@ use web_http::frame::Frame;
 
 /// Who answers the messages of a connection.
 pub trait Handler {
-    // at this tick the message may be answered so, which leads to that desk
+    // at this tick the message may be answered so, which leads to that handler
     ghost serves: { Self → Tick → Message → Answer → Self → Type 0 };
 
     /// Answers a message. Where a growth is refused that is `Answer::Unavailable`.

@@ -90,7 +90,7 @@ pub fn run_stream<R: Source, T: Ticks, D: Handler, W: Drain>(
     answer_all(alloc, buffers, reader, ticks, handler, writer)
 }
 
-/// Answers a stream of requests at a desk that is there for it alone.
+/// Answers a stream of requests at a handler that is there for it alone.
 pub fn run_connection<R: Source, T: Ticks, D: Handler + Drop, W: Drain>(
     alloc: Global,
     reader: &mut R,

@@ -1,4 +1,4 @@
--- The acts that are for one caller, and another desk that follows.
+-- The acts that are for one caller, and another handler that follows.
 use Rattle.std.proofs.Common.{◌≡◌, ◌==◌, ℕ, ◌<◌, ◌≤◌, Bool, true, false, if◌then◌else◌, List, [], ◌∷◌, ◌++◌, refl, sym, ap, subst, arith}
 use Rattle.std.proofs.lemmas.Bool.{eq-eqb, ne_eqb}
 use Rattle.std.proofs.lemmas.List.{map-append}
@@ -59,7 +59,7 @@ pub are_by : (came n : ℕ) (acts : List Act) → n < came → AreOf came (heard
 are_by came n [] lt = tt
 are_by came n (a ∷ acts) lt = (lt, are_by came n acts lt)
 
--- ---- another desk
+-- ---- another handler
 
 module _ {D E : Type 0} (Serves : D → Tick → Message → Answer → D → Type 0) (Other : E → Tick → Message → Answer → E → Type 0) (Sure : D → Type 0) (Seen : D → E → Type 0)
     (follows : Follows Serves Other Sure Seen) where
@@ -74,7 +74,7 @@ module _ {D E : Type 0} (Serves : D → Tick → Message → Answer → D → Ty
       let rest = acts_follow mid e acts one.0 x sure one.2 in
       (rest.0, (one.0, one.1, rest.1), rest.2)
 
-  -- a desk that follows another one follows it over all conversations, which stay as they are
+  -- a handler that follows another one follows it over all conversations, which stay as they are
   pub connections_follow : (came : ℕ) (from to : Between D) (all : History) (seen : E) → Connections Serves came from to all → Sure to.handler → Seen from.handler seen
       → (left : E) × Connections Other came (between from.told seen) (between to.told left) all × Seen to.handler left
   connections_follow came from to all seen connections sure is =

@@ -1,4 +1,4 @@
--- What each thing that happens in a hall adds to its story.
+-- What each thing that happens in the connections adds to its story.
 use Rattle.std.proofs.Common.{◌≡◌, ◌⊎◌, inl, inr, ℕ, ◌<◌, ◌≤◌, ◌+◌, List, [], ◌∷◌, ◌++◌, length, replicate, Option, Some, None, slice_index_or, slice_set, refl, sym, ap, ◌∙◌, subst, subst₂, append_assoc, append-nil, arith}
 use Rattle.std.proofs.lemmas.Bool.{cases_eq, cases_lt}
 use Rattle.std.proofs.lemmas.List.{get_or_append_left, get_or_push, get_or_past, get_or-replicate, length-set, length_push, length-replicate, get_or-set_same, get_or-set_other, set_past, set-get_or}
@@ -20,23 +20,23 @@ use Rattle.web_connections.proofs.ConnectionLemmas.{acts_heard, acts_of-append, 
 abbrev some_caller : Caller → Option Caller
 some_caller c = Some c
 
--- who is found at a place is the one who is there
+-- who is found at a slot is the one who is there
 same_caller : (whoever : Option Caller) (c d : Caller) → whoever ≡ Some c → whoever ≡ Some d → c ≡ d
 same_caller whoever c d is also = let both : some_caller c ≡ some_caller d = sym is ∙ also in cc
 
 none_here : (whoever : Option Caller) (c : Caller) → whoever ≡ None → whoever ≡ Some c → ⊥
 none_here whoever c none some = let both : (let it : Option Caller = None in it) ≡ some_caller c = sym none ∙ some in absurd cc
 
--- ---- who is at which place
+-- ---- who is at which slot
 
--- at a place that was set is whoever was set there, and at another one who was there
+-- at a slot that was set is whoever was set there, and at another one who was there
 set_here : (slots : List (Option Caller)) (slot : ℕ) (whoever : Option Caller) → slot < length slots → slice_index_or (slice_set slots slot whoever) slot None ≡ whoever
 set_here slots slot whoever within = get_or-set_same slots slot whoever None within
 
 set_elsewhere : (slots : List (Option Caller)) (slot other : ℕ) (whoever : Option Caller) → (slot ≡ other → ⊥) → slice_index_or (slice_set slots slot whoever) other None ≡ slice_index_or slots other None
 set_elsewhere slots slot other whoever apart = get_or-set_other slots slot other whoever None (λ e. apart (sym e))
 
--- whoever is somewhere is at one of the places
+-- whoever is somewhere is at one of the slots
 within_slots : (now : Callers) (slot : ℕ) (c : Caller) → at_slot slot now ≡ Some c → slot < length now.slots
 within_slots now slot c is = on (cases_lt slot (length now.slots))
   where
@@ -44,7 +44,7 @@ within_slots now slot c is = on (cases_lt slot (length now.slots))
     on (inl lt) = lt
     on (inr le) = absurd (none_here (at_slot slot now) c (get_or_past now.slots slot None le) is)
 
--- whoever is there after a place became free was there before
+-- whoever is there after a slot became free was there before
 still_here : (now : Callers) (slot i : ℕ) (c : Caller) → at_slot i (with_slot slot None now) ≡ Some c → at_slot i now ≡ Some c
 still_here now slot i c is = on (cases_eq slot i) (cases_lt slot (length now.slots))
   where
@@ -54,14 +54,14 @@ still_here now slot i c is = on (cases_eq slot i) (cases_lt slot (length now.slo
         absurd (none_here (at_slot i (with_slot slot None now)) c (subst (λ (k : ℕ). slice_index_or (slice_set now.slots slot None) k None ≡ None) same (set_here now.slots slot None lt)) is)
     on (inl same) (inr le) = subst (λ (slots : List (Option Caller)). slice_index_or slots i None ≡ Some c) (set_past now.slots slot None le) is
 
--- a place becomes free
+-- a slot becomes free
 in_slots_free : (now : Callers) (lasts : List ConnectionState) (slot : ℕ) → AreInSlots now lasts → AreInSlots (with_slot slot None now) lasts
 in_slots_free now lasts slot in_slots = record {
   here = λ i c is. in_slots.here i c (still_here now slot i c is);
   apart = λ i j c d is also same. in_slots.apart i j c d (still_here now slot i c is) (still_here now slot j d also) same;
 }
 
--- a caller takes a place
+-- a caller takes a slot
 in_slots_come : (now : Callers) (lasts : List ConnectionState) (slot : ℕ) (state : ConnectionState) → length lasts ≡ now.came → slot < length now.slots → AreInSlots now lasts
     → AreInSlots (with_caller slot state now) (lasts ++ state ∷ [])
 in_slots_come now lasts slot state count within in_slots = record {
@@ -75,7 +75,7 @@ in_slots_come now lasts slot state count within in_slots = record {
     comer : Caller
     comer = caller now.came state
 
-    -- who is at the place that was taken
+    -- who is at the slot that was taken
     new_one : (i : ℕ) (c : Caller) → at_slot i after ≡ Some c → slot ≡ i → c ≡ comer
     new_one i c is same =
         same_caller (at_slot i after) c comer is (subst (λ (k : ℕ). slice_index_or (slice_set now.slots slot (Some comer)) k None ≡ Some comer) same (set_here now.slots slot (Some comer) within))
@@ -104,7 +104,7 @@ in_slots_come now lasts slot state count within in_slots = record {
         absurd (omega (arith, number, same, lt))
     differ i j c d is also same (inr a) (inr b) = in_slots.apart i j c d (old_one i c is a) (old_one j d also b) same
 
--- the conversation at a place goes on
+-- the conversation at a slot goes on
 in_slots_turn : (now : Callers) (lasts : List ConnectionState) (slot : ℕ) (c : Caller) (state : ConnectionState) → length lasts ≡ now.came → at_slot slot now ≡ Some c → AreInSlots now lasts
     → AreInSlots (with_slot slot (Some (caller c.number state)) now) (slice_set lasts c.number state)
 in_slots_turn now lasts slot c state count found in_slots = record {
@@ -149,7 +149,7 @@ in_slots_turn now lasts slot c state count found in_slots = record {
 
 -- ---- who is gone
 
--- who is at a place after one of the places was set
+-- who is at a slot after one of the slots was set
 who_is : (now : Callers) (slot i : ℕ) (whoever : Option Caller) (c : Caller) → slot < length now.slots → slice_index_or (slice_set now.slots slot whoever) i None ≡ Some c
     → ((slot ≡ i) × (whoever ≡ Some c)) ⊎ ((slot ≡ i → ⊥) × (at_slot i now ≡ Some c))
 who_is now slot i whoever c within is = on (cases_eq slot i)
@@ -272,7 +272,7 @@ module _ {D : Type 0} (Serves : D → Tick → Message → Answer → D → Type
           (sym (get_or-set_other all.lasts number n state nobody (λ e. apart (sym e))))
           (connections.exchanges n within)
 
-  -- ---- a hall goes on
+  -- ---- the connections goes on
 
   goes_stay : (first from : Between D) (old : Callers) (till : History) → Serving Serves first from old till → GoesOn Serves first from from old old till
   goes_stay first from old till serving = record {
@@ -333,7 +333,7 @@ module _ {D : Type 0} (Serves : D → Tick → Message → Answer → D → Type
 
   -- ---- one after another
 
-  -- a hall goes on so, and these came in
+  -- the connections goes on so, and these came in
   abbrev GoesWith : Between D → Between D → Between D → Callers → Callers → History → List Begun → Type 0
   GoesWith first from to old new till came = (on : GoesOn Serves first from to old new till) × AreAmong on.firsts came
 

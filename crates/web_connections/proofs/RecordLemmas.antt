@@ -1,4 +1,4 @@
--- A run at a desk is a list of acts there, and a run at a desk that records them.
+-- A run at a handler is a list of acts there, and a run at a handler that records them.
 use Rattle.std.proofs.Common.{◌≡◌, ℕ, List, [], ◌∷◌, ◌++◌, map, Option, Some, Ok, Err, refl, sym, ap, ◌∙◌, subst, subst₂, append_assoc, append-nil}
 use Rattle.std.proofs.lemmas.List.{map-append}
 use Rattle.base_values.specs.declared.answer.Answer.{Answer}
@@ -57,7 +57,7 @@ module _ {D : Type 0} (Serves : D → Tick → Message → Answer → D → Type
         ),
       )
 
-  -- a relation of two places is one of the acts between them, and the same relation at the recording desk
+  -- a relation of two slots is one of the acts between them, and the same relation at the recording handler
   abbrev pub Recorded : Cursor D → Cursor D → List ℕ → List ℕ → (Cursor (List Act) → Cursor (List Act) → Type 0) → Type 0
   Recorded p q b a Rel =
       (acts : List Act) × Acts Serves p.handler acts q.handler × Adds p.told (ticks acts) q.told

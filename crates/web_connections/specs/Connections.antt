@@ -1,4 +1,4 @@
--- Many conversations at one desk, whose callers come and go.
+-- Many conversations at one handler, whose callers come and go.
 use Rattle.std.specs.Prelude.{◌≡◌, ⊤, ◌⊎◌, Bool, true, false, ℕ, ◌==◌, ◌+◌, ◌<◌, ◌≤◌, List, [], ◌∷◌, ◌++◌, length, map, Option, Some, None, if◌then◌else◌, slice_index_or, slice_set}
 use Rattle.base_values.specs.declared.answer.Answer.{Answer}
 use Rattle.base_devices.specs.declared.device.Tick.{Tick}
@@ -14,7 +14,7 @@ use Rattle.web_connections.specs.declared.turns.Next.TheVariants as nexts
 use Rattle.web_connections.specs.Acts.{Act, Acts, Between, ticks}
 use Rattle.web_connections.specs.Exchanges.{ConnectionState, Takes, Exchanges, Turn, connection_begun, needs_of}
 
--- ---- places
+-- ---- slots
 
 -- a caller: how many came before it, and how far its conversation is
 pub record Caller : Type 0 where
@@ -25,54 +25,54 @@ pub record Caller : Type 0 where
 abbrev pub caller : ℕ → ConnectionState → Caller
 caller number state = record { number = number; state = state }
 
--- a place, which is free or has a caller
+-- a slot, which is free or has a caller
 abbrev pub caller_in_slot : ℕ → Option ConnectionState → Option Caller
 caller_in_slot number None = None
 caller_in_slot number (Some state) = Some (caller number state)
 
--- how many callers came, and who is at each place
+-- how many callers came, and who is at each slot
 pub record Callers : Type 0 where
   pub came : ℕ
   pub slots : List (Option Caller)
 
--- how many came in all, and who is at each place now
+-- how many came in all, and who is at each slot now
 abbrev pub callers : ℕ → List (Option Caller) → Callers
 callers came slots = record { came = came; slots = slots }
 
--- who is at a place; beyond the last place nobody is
+-- who is at a slot; beyond the last slot nobody is
 abbrev pub at_slot : ℕ → Callers → Option Caller
 at_slot slot now = slice_index_or now.slots slot None
 
--- callers with another one, or nobody, at that place
+-- callers with another one, or nobody, at that slot
 abbrev pub with_slot : ℕ → Option Caller → Callers → Callers
 with_slot slot whoever now = callers now.came (slice_set now.slots slot whoever)
 
--- the next caller takes a place, with the next number
+-- the next caller takes a slot, with the next number
 abbrev pub with_caller : ℕ → ConnectionState → Callers → Callers
 with_caller slot state now = callers (now.came + 1) (slice_set now.slots slot (Some (caller now.came state)))
 
--- a turn of whoever is at a place: at a free one nothing happens
+-- a turn of whoever is at a slot: at a free one nothing happens
 abbrev pub TakesTurn : {D : Type 0} → (D → Tick → Message → Answer → D → Type 0) → Between D → Between D → Option Caller → Option Caller → Type 0
 TakesTurn Serves from to None new = (new ≡ None) × (to ≡ from)
 TakesTurn Serves from to (Some c) new = (state : ConnectionState) × (new ≡ Some (caller c.number state)) × Turn Serves from to c.state state × Takes c.state state
 
--- the turn of whoever is at a place
+-- the turn of whoever is at a slot
 abbrev pub TurnsAt : {D : Type 0} → (D → Tick → Message → Answer → D → Type 0) → Between D → Between D → ℕ → Callers → Callers → Type 0
 TurnsAt Serves from to slot old new =
     (whoever : Option Caller) × TakesTurn Serves from to (at_slot slot old) whoever × (new ≡ with_slot slot whoever old)
 
--- a place is free for one more caller, who can have a number still
+-- a slot is free for one more caller, who can have a number still
 pub record IsFree (slot : ℕ) (now : Callers) : Type 0 where
   pub within : slot < length now.slots
   pub free : at_slot slot now ≡ None
   pub number : now.came < 18446744073709551615
 
--- a place that is free, or none is
+-- a slot that is free, or none is
 abbrev pub FindsFree : List (Option Caller) → Option ℕ → Type 0
 FindsFree slots (Some slot) = (slot < length slots) × (slice_index_or slots slot None ≡ None)
 FindsFree slots None = (slot : ℕ) → slot < length slots → slice_index_or slots slot None ≡ None → ⊥
 
--- what whoever is at a place needs for the next turn; a free place needs nothing
+-- what whoever is at a slot needs for the next turn; a free slot needs nothing
 abbrev pub slot_needs : Option Caller → Needs
 slot_needs None = needs.Nothing
 slot_needs (Some c) = needs_of c.state.unsent c.state.phase
@@ -82,7 +82,7 @@ abbrev pub has_some : List ℕ → Bool
 has_some [] = false
 has_some (b ∷ bs) = true
 
--- whether whoever is at a place has bytes unsent
+-- whether whoever is at a slot has bytes unsent
 abbrev pub slot_unsent : Option Caller → Bool
 slot_unsent None = false
 slot_unsent (Some c) = has_some c.state.unsent
@@ -105,7 +105,7 @@ IsSpare (Some frames) = frames.left ≡ []
 abbrev pub state_begun : Begun → ConnectionState
 state_begun b = connection_begun b.coming b.gone
 
--- Nobody comes; or one does, who takes a place that is free, or none.
+-- Nobody comes; or one does, who takes a slot that is free, or none.
 abbrev pub AcceptsOne : List Begun → Callers → Callers → Type 0
 AcceptsOne [] old new = new ≡ old
 AcceptsOne (b ∷ bs) old new = (bs ≡ []) × ((new ≡ old) ⊎ ((slot : ℕ) × IsFree slot old × (new ≡ with_caller slot (state_begun b) old)))
@@ -128,7 +128,7 @@ abbrev pub AreAmong : List ConnectionState → List Begun → Type 0
 AreAmong states [] = states ≡ []
 AreAmong states (b ∷ bs) = AreAmong states bs ⊎ ((rest : List ConnectionState) × (states ≡ state_begun b ∷ rest) × AreAmong rest bs)
 
--- ---- all callers since a hall opened
+-- ---- all callers since the connections opened
 
 -- an act, and the number of the caller whose message it answered
 pub record Heard : Type 0 where
@@ -157,7 +157,7 @@ AreOf came (h ∷ hs) = (h.caller < came) × AreOf came hs
 abbrev pub nobody : ConnectionState
 nobody = record { phase = phases.Lost; left = []; unsent = []; coming = None; gone = None }
 
--- What happened in a hall: each caller who came, by its number, as its conversation began and as it is, or was when the caller went; and one
+-- What happened in the connections: each caller who came, by its number, as its conversation began and as it is, or was when the caller went; and one
 -- list of acts for all of them.
 pub record History : Type 0 where
   pub firsts : List ConnectionState
@@ -168,7 +168,7 @@ pub record History : Type 0 where
 abbrev pub history : List ConnectionState → List ConnectionState → List Heard → History
 history firsts lasts heard = record { firsts = firsts; lasts = lasts; heard = heard }
 
--- What holds when this many callers came: the acts lead from desk to desk, one after another, at the ticks that were given, and each is for
+-- What holds when this many callers came: the acts lead from handler to handler, one after another, at the ticks that were given, and each is for
 -- a caller among them. Each caller's conversation is the acts that are for it: they are those of its own bytes, in order, and what it was
 -- sent is the front of their texts.
 pub record Connections {D : Type 0} (Serves : D → Tick → Message → Answer → D → Type 0) (came : ℕ) (from to : Between D) (all : History) : Type 0 where
@@ -179,21 +179,21 @@ pub record Connections {D : Type 0} (Serves : D → Tick → Message → Answer 
   pub lasts : length all.lasts ≡ came
   pub exchanges : (n : ℕ) → n < came → Exchanges (slice_index_or all.firsts n nobody) (of n all.heard) (slice_index_or all.lasts n nobody)
 
--- Whoever is at a place is one of those who came, and its conversation is as far as that place has it. Nobody has two places.
+-- Whoever is at a slot is one of those who came, and its conversation is as far as that slot has it. Nobody has two slots.
 pub record AreInSlots (now : Callers) (lasts : List ConnectionState) : Type 0 where
   pub here : (slot : ℕ) (c : Caller) → at_slot slot now ≡ Some c → (c.number < now.came) × (slice_index_or lasts c.number nobody ≡ c.state)
   pub apart : (i j : ℕ) (c d : Caller) → at_slot i now ≡ Some c → at_slot j now ≡ Some d → c.number ≡ d.number → i ≡ j
 
--- What holds of a hall and who is in it now: the acts lead on, and whoever is at a place is as far as the story has it.
+-- What holds of the connections and who is in it now: the acts lead on, and whoever is at a slot is as far as the story has it.
 pub record Serving {D : Type 0} (Serves : D → Tick → Message → Answer → D → Type 0) (from to : Between D) (now : Callers) (all : History) : Type 0 where
   pub connections : Connections Serves now.came from to all
   pub in_slots : AreInSlots now all.lasts
 
--- a caller is at no place
+-- a caller is at no slot
 abbrev pub IsGone : ℕ → Callers → Type 0
 IsGone n now = (slot : ℕ) (c : Caller) → at_slot slot now ≡ Some c → c.number ≡ n → ⊥
 
--- Whatever happened in a hall till then, this is what happened till now. Those who came till then began as they did, and their acts come first. Whoever
+-- Whatever happened in the connections till then, this is what happened till now. Those who came till then began as they did, and their acts come first. Whoever
 -- was gone then is gone for good: nothing more is for such a caller, and its conversation is as it was.
 pub record GoesOn {D : Type 0} (Serves : D → Tick → Message → Answer → D → Type 0) (first from to : Between D) (old new : Callers) (till : History) : Type 0 where
   pub firsts : List ConnectionState

@@ -61,7 +61,7 @@ pub record Exchanges (first : ConnectionState) (own : List Act) (now : Connectio
   pub is : text ≡ sent ++ now.unsent
   pub out : Adds first.gone sent now.gone
 
--- Where another message may be there, the first one that is whole is answered at a desk, whose page has this text before and that one behind; nothing
+-- Where another message may be there, the first one that is whole is answered at a handler, whose page has this text before and that one behind; nothing
 -- is read or sent meanwhile. Where it goes on it took some of the bytes.
 pub record Replies {D : Type 0} (Serves : D → Tick → Message → Answer → D → Type 0) (from to : Between D) (before behind : List ℕ) (old new : ConnectionState) : Type 0 where
   pub went : Went Serves new.coming new.phase (cursor old.left from.told from.handler (Some before)) (cursor new.left to.told to.handler (Some behind))
@@ -93,7 +93,7 @@ pub record Sends (old new : ConnectionState) : Type 0 where
   pub unsent : old.unsent ≡ part ++ new.unsent
   pub gone : Adds old.gone part new.gone
 
--- what a read leads to: more bytes; none yet; the end of what comes; or a piece that is lost
+-- what a read leads to: more bytes; none yet; the end of what comes; or a read buffer that is lost
 abbrev pub Came : Phase → ConnectionState → ConnectionState → Type 0
 Came phases.Waits old new = Gives old.coming [] new.coming × (new.left ≡ old.left)
 Came phases.Goes old new = (input : List ℕ) × Gives old.coming input new.coming × (new.left ≡ old.left ++ input)

@@ -139,7 +139,7 @@ impl<E: Ends> Connection<E> {
         }
     }
 
-    // Answers the first message that is whole, on a page.
+    // Answers the first message that is whole, on an output.
     fn take_step<L: Ledger, M: Ledger, T: Ticks, D: Handler>(
         &mut self,
         context: &mut Context<'_, L, M, T, D>,
@@ -252,7 +252,7 @@ impl<E: Ends> Connection<E> {
         }
     }
 
-    /// A turn, with a piece to read into and a page to write an answer on: what is left of an answer is sent; where nothing is left, it
+    /// A turn, with a read buffer to read into and an output to write an answer on: what is left of an answer is sent; where nothing is left, it
     /// reads once, answers one message, and sends what is taken of its answer. Then it waits for what it needs. Where that fails, or the
     /// sending, it won't be brought more.
     pub fn turn<L: Ledger, M: Ledger, T: Ticks, D: Handler>(

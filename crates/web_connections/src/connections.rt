@@ -1,4 +1,4 @@
-//! The callers of a house, each at its place.
+//! The callers of a server, each at its slot.
 
 ghost use Rattle.std.specs.Prelude.{◌≡◌, ℕ, None, length, option_map, replicate, IfOk, IfSome, IfNone, OnOk, OnErr};
 ghost use Rattle.web_connection.specs.Run.{AtTick};
@@ -16,7 +16,7 @@ use std::sync::ledger::Ledger;
 use web_connection::Handler;
 use web_sockets::Ends;
 
-/// The callers of a house, each at its place. A place that is left is taken again by a later caller, who has a number of its own.
+/// The callers of a server, each at its slot. A slot that is left is taken again by a later caller, who has a number of its own.
 #[derive(Drop)]
 pub struct Connections<E: Ends> {
     slots: Vec<Slot<E>>,
@@ -31,7 +31,7 @@ impl<E: Ends> Model for Connections<E> {
     ghost view = { λ h. callers h.came h.slots.items };
 }
 
-// As many places, each of them free.
+// As many slots, each of them free.
 fn free_slots<E: Ends>(alloc: Global, count: usize) -> Result<Vec<Slot<E>>, AllocError>
     ensures { IfOk result (λ slots. slots.items ≡ replicate count None) }
 {
@@ -42,7 +42,7 @@ fn free_slots<E: Ends>(alloc: Global, count: usize) -> Result<Vec<Slot<E>>, Allo
     Ok(slots)
 }
 
-// A place that is free.
+// A slot that is free.
 fn find_free<E: Ends>(slots: &[Slot<E>]) -> Option<usize>
     ensures { FindsFree slots.now result }
 {
@@ -55,7 +55,7 @@ fn find_free<E: Ends>(slots: &[Slot<E>]) -> Option<usize>
 }
 
 impl<E: Ends> Connections<E> {
-    /// A hall of so many places, into which nobody came yet.
+    /// The connections of so many slots, into which nobody came yet.
     pub fn new(alloc: Global, count: usize) -> Result<Self, AllocError>
         ensures { IfOk result (λ connections. connections ≡ callers 0 (replicate count None)) }
     {
@@ -70,14 +70,14 @@ impl<E: Ends> Connections<E> {
         self.came
     }
 
-    /// How many places it has.
+    /// How many slots it has.
     pub fn size(&self) -> usize
         ensures { result ≡ length self.now.slots }
     {
         self.slots.len()
     }
 
-    /// A place that is free for one more caller, if there is one.
+    /// A slot that is free for one more caller, if there is one.
     pub fn free_slot(&self) -> Option<usize>
         ensures some { IfSome result (λ slot. IsFree slot self.now) }
         ensures none { IfNone result ((slot : ℕ) → IsFree slot self.now → ⊥) }
@@ -88,7 +88,7 @@ impl<E: Ends> Connections<E> {
         find_free(&self.slots)
     }
 
-    /// The number of whoever is at a place.
+    /// The number of whoever is at a slot.
     pub fn number(&self, slot: usize) -> Option<u64>
         ensures { result ≡ option_map (λ c. c.number) (at_slot slot self.now) }
     {
@@ -98,7 +98,7 @@ impl<E: Ends> Connections<E> {
         }
     }
 
-    /// What whoever is at a place needs for the next turn.
+    /// What whoever is at a slot needs for the next turn.
     pub fn needs(&self, slot: usize) -> Needs
         ensures { result ≡ slot_needs (at_slot slot self.now) }
     {
@@ -108,7 +108,7 @@ impl<E: Ends> Connections<E> {
         }
     }
 
-    /// Whether whoever is at a place has bytes unsent.
+    /// Whether whoever is at a slot has bytes unsent.
     pub fn has_unsent(&self, slot: usize) -> bool
         ensures { result ≡ slot_unsent (at_slot slot self.now) }
     {
@@ -118,7 +118,7 @@ impl<E: Ends> Connections<E> {
         }
     }
 
-    /// A caller comes in, to a place that is free.
+    /// A caller comes in, to a slot that is free.
     pub fn accept(&mut self, alloc: Global, slot: usize, ends: E) -> Result<(), AllocError>
         requires { IsFree slot self.old }
         ensures come { OnOk result
@@ -132,7 +132,7 @@ impl<E: Ends> Connections<E> {
         Ok(())
     }
 
-    /// A turn of whoever is at a place.
+    /// A turn of whoever is at a slot.
     pub fn turn<L: Ledger, M: Ledger, T: Ticks, D: Handler>(
         &mut self,
         slot: usize,
@@ -150,7 +150,7 @@ impl<E: Ends> Connections<E> {
         found.turn(context)
     }
 
-    /// Whoever is at a place leaves.
+    /// Whoever is at a slot leaves.
     pub fn leave(&mut self, slot: usize) -> Option<E>
         ensures free { self.new ≡ with_slot slot None self.old }
         ensures ends { leaves_with E.left E.taken (at_slot slot self.old) result }

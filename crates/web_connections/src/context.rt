@@ -7,7 +7,7 @@ use std::alloc::Global;
 use std::sync::ledger::Ledger;
 use web_connection::ReadBuffer;
 
-/// What serving needs: memory, a piece to read into, a page to write an answer on, the ticks of a clock, and the desk that answers. It holds no memory
+/// What serving needs: memory, a read buffer to read into, an output to write an answer on, the ticks of a clock, and the handler that answers. It holds no memory
 /// of its own, so that its end gives back what it was lent.
 #[derive(Drop)]
 pub struct Context<'a, L: Ledger, M: Ledger, T, D> {

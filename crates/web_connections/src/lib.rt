@@ -1,4 +1,4 @@
-//! How do many conversations take turns at one desk, in any order?
+//! How do many conversations take turns at one handler, in any order?
 #![tactic(auto)]
 
 pub mod context;

@@ -1,4 +1,4 @@
-//! A place for a caller.
+//! A slot for a caller.
 
 ghost use Rattle.std.specs.Prelude.{◌≡◌, [], None, Some, is_none, option_map, IfOk, OnOk, OnErr};
 ghost use Rattle.web_connection.specs.Run.{AtTick};
@@ -17,7 +17,7 @@ use web_connection::Handler;
 use web_http::frames::Frames;
 use web_sockets::Ends;
 
-/// A place for a caller: it is free, or has the conversation of one, and its number. The room of a conversation stays here for the next one.
+/// A slot for a caller: it is free, or has the conversation of one, and its number. The room of a conversation stays here for the next one.
 #[derive(Drop)]
 pub struct Slot<E: Ends> {
     number: u64,
@@ -48,7 +48,7 @@ fn room_of(alloc: Global, spare: Option<Frames>) -> Result<Frames, AllocError>
 }
 
 impl<E: Ends> Slot<E> {
-    /// A place that is free.
+    /// A slot that is free.
     pub fn new() -> Self
         ensures { result ≡ None }
     {

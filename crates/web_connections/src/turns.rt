@@ -3,10 +3,10 @@
 /// What happens next among callers.
 #[derive(Clone, Copy, Drop, PartialEq, Eq)]
 pub enum Next {
-    /// The next caller comes, if a place is free.
+    /// The next caller comes, if a slot is free.
     Comes,
-    /// Whoever is at that place has a turn.
+    /// Whoever is at that slot has a turn.
     Turn(usize),
-    /// Whoever is at that place leaves.
+    /// Whoever is at that slot leaves.
     Leaves(usize),
 }

@@ -1,4 +1,4 @@
--- What a desk is fed, and what comes of it.
+-- What a handler is fed, and what comes of it.
 use Rattle.std.specs.Prelude.{◌≡◌, ℕ, ◌+◌, ◌≤◌, List, [], Option, Some, Result, Err, ⊤}
 use Rattle.base_devices.specs.declared.device.Tick.{Tick}
 use Rattle.base_devices.specs.declared.device.Source as source
@@ -24,7 +24,7 @@ abbrev pub ports_at : {R W : Type 0} → source.Ghosts R → drain.Ghosts W → 
 ports_at r w reader writer =
     record { left = r.left reader; taken = w.taken writer; calls = r.calls reader; input = r.failures reader; output = w.failures writer }
 
--- the devices of a feed: reader and writer with the ticks that were told and the desk of the shop between them
+-- the devices of a feed: reader and writer with the ticks that were told and the handler of the shop between them
 abbrev pub devices : {D : Type 0} → Ports → List Tick → D → Devices D
 devices ports told house = record { left = ports.left; calls = ports.calls; told = Some told; handler = house; taken = ports.taken }
 
@@ -37,7 +37,7 @@ abbrev pub EndsTicks : ℕ → Result (Unit {0}) Failure → Type 0
 EndsTicks count (Err failures.Clock) = count ≡ 18446744073709551615
 EndsTicks count _ = ⊤
 
--- What is read, what is written, and how it ends, over any tables: a run from this desk with the first ticks, one for each whole
+-- What is read, what is written, and how it ends, over any tables: a run from this handler with the first ticks, one for each whole
 -- request. It ends with the failure of the reader, the writer or the ticks only where that one failed, and no other one did.
 pub record FeedsHandler {T : Type 0} (tables : Meaning T) (first : HandlerView T) (from step : ℕ) (old new : Ports) (result : Result (Unit {0}) Failure) : Type 0 where
   pub count : ℕ

@@ -48,7 +48,7 @@ fn feed_with<P: Pace, E: Ledger, T: Tables + Drop, B: Dues + Drop, R: Source, W:
 
 /// Reads requests to the end of the input, and writes the answers that the shop of an office gives, whatever its tables are. The first request
 /// comes at that moment, and each other one that many seconds after the one before it, but none after the last moment that there
-/// is. It reads at most 1,000,000 times. Faults: 6 (there was no memory for the desk or for what is read), 82 (the reader failed, or its limit is
+/// is. It reads at most 1,000,000 times. Faults: 6 (there was no memory for the handler or for what is read), 82 (the reader failed, or its limit is
 /// met), 83 (the writer failed), 85 (2^64 - 1 ticks were told).
 pub fn feed_office<T: Tables + Drop, B: Dues + Drop, R: Source, W: Drain>(
     alloc: Global,

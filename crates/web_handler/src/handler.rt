@@ -36,7 +36,7 @@ impl<T: Tables, B: Book> Model for ShopHandler<T, B> {
 }
 
 impl<T: Tables + Drop, B: Book + Drop> ShopHandler<T, B> {
-    /// The desk of an office, over tables that hold its rows.
+    /// The handler of an office, over tables that hold its rows.
     pub fn over(alloc: Global, tables: T, office: Office<B>) -> Result<Self, AllocError>
         ensures { IfOk result
             (λ handler. handler ≡ handler_with tables office.organizer office.event office.state) }
@@ -45,7 +45,7 @@ impl<T: Tables + Drop, B: Book + Drop> ShopHandler<T, B> {
         Ok(ShopHandler::with_words(tables, office, words))
     }
 
-    /// The desk of an office, where the words of its answers were made before.
+    /// The handler of an office, where the words of its answers were made before.
     pub fn with_words(tables: T, office: Office<B>, words: HttpWording) -> Self
         ensures { result ≡ handler_with tables words.organizer words.event office.state }
     {

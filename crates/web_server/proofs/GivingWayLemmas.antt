@@ -1,4 +1,4 @@
--- Who has to leave, of one place more.
+-- Who has to leave, of one slot more.
 use Rattle.std.proofs.Common.{◌≡◌, ◌+◌, ◌<◌, ◌≤◌, ◌⊎◌, inl, inr, ℕ, List, length, slice_get, slice_index_or, Option, Some, None, refl, sym, ap, ◌∙◌, subst, arith}
 use Rattle.std.proofs.lemmas.Bool.{cases_eq, cases_lt}
 use Rattle.std.proofs.lemmas.List.{get_or_past, get_or-set_same, get_or-set_other, set-get_or, set_past}
@@ -10,7 +10,7 @@ use Rattle.web_server.specs.Timeouts.{stays}
 
 -- ---- who goes first
 
--- of the first so many places, and how readily
+-- of the first so many slots, and how readily
 abbrev pub IsFirst : (ℕ → Option ℕ) → ℕ → Option ℕ → ℕ → Type 0
 IsFirst ready n None most = (slot : ℕ) → slot < n → ready slot ≡ None
 IsFirst ready n (Some first) most = (ready first ≡ Some most) × ((slot r : ℕ) → slot < n → ready slot ≡ Some r → r ≤ most)
@@ -26,7 +26,7 @@ load_next timer now n = simp unary_clauses refl
 
 -- ---- whose time is up
 
--- what a look at the first so many places leaves
+-- what a look at the first so many slots leaves
 pub record EndedTo (timer : List Timer) (now n : ℕ) (old new : Callers) : Type 0 where
   pub came : new.came ≡ old.came
   pub below : (slot : ℕ) → slot < n → at_slot slot new ≡ stays (slice_get timer slot) now (at_slot slot old)
@@ -36,7 +36,7 @@ nobody_stays : (timer : Option Timer) (now : ℕ) → stays timer now None ≡ N
 nobody_stays None now = refl
 nobody_stays (Some s) now = refl
 
--- who is at a place that was given to somebody; beyond the last place nobody is
+-- who is at a slot that was given to somebody; beyond the last slot nobody is
 at_given : (n : ℕ) (mid : Callers) (whoever : Option Caller) → (at_slot n mid ≡ None → whoever ≡ None) → at_slot n (with_slot n whoever mid) ≡ whoever
 at_given n mid whoever nobody = on (cases_lt n (length mid.slots)) where
   on : (n < length mid.slots) ⊎ (length mid.slots ≤ n) → at_slot n (with_slot n whoever mid) ≡ whoever
@@ -62,7 +62,7 @@ ended_none timer now old = record {
   above = λ slot le. refl;
 }
 
--- a look at one more place
+-- a look at one more slot
 pub ended_more : (timer amid : List Timer) (now n : ℕ) (old mid new : Callers) → EndedTo timer now n old mid → amid ≡ timer
     → new ≡ with_slot n (stays (slice_get amid n) now (at_slot n mid)) mid → EndedTo timer now (n + 1) old new
 ended_more timer amid now n old mid new x same is = record {

@@ -1,4 +1,4 @@
--- What happens in a house, one after another.
+-- What happens in a server, one after another.
 use Rattle.std.proofs.Common.{◌≡◌, inl, inr, ℕ, ◌+◌, ◌≤◌, List, [], ◌∷◌, ◌++◌, replicate, None, Option, Result, Ok, Err, IfErr, refl, sym, ap, ◌∙◌, subst, subst₂, append_assoc, append-nil, arith}
 use Rattle.base_values.specs.declared.answer.Answer.{Answer}
 use Rattle.base_devices.specs.declared.device.Tick.{Tick}
@@ -27,7 +27,7 @@ rearranged_leaves old new slot is = record { order = nexts.Leaves slot ∷ []; a
 pub rearranged_comes : (came : List Begun) (old new : Callers) → AcceptsOne came old new → Rearranged came old new
 rearranged_comes came old new accepts = record { order = nexts.Comes ∷ []; all = (new, came, [], sym (append-nil came), accepts, (refl, refl)) }
 
--- somebody takes a free place, or comes in vain
+-- somebody takes a free slot, or comes in vain
 pub accepts_one : (old new : Callers) (slot : ℕ) (b : Begun) → IsFree slot old → new ≡ with_caller slot (state_begun b) old → AcceptsOne (b ∷ []) old new
 accepts_one old new slot b free is = (refl, inr (slot, free, is))
 
@@ -58,7 +58,7 @@ clears_more a b c x y = record { connections = rearranged_more [] [] a b c x.con
 pub cleared_comes : (a b c : Callers) (one : Begun) → Clears a b → AcceptsOne (one ∷ []) b c → Rearranged (one ∷ []) a c
 cleared_comes a b c one x accepts = rearranged_more [] (one ∷ []) a b c x.connections (rearranged_comes (one ∷ []) b c accepts)
 
--- ---- the same, with those who are let in still
+-- ---- the same, with those who are accepted still
 
 pub reassigns_of : (old new : Callers) (before left : ℕ) (shown seen : Option (List Begun)) (came : List Begun) → Adds shown came seen → Rearranged came old new → new.came + left ≤ old.came + before
     → Reassigns old new before left shown seen
@@ -138,7 +138,7 @@ module _ {D : Type 0} (Serves : D → Tick → Message → Answer → D → Type
     count = omega (arith, x.count, y.count);
   }
 
-  -- from an empty hall on
+  -- from an empty connections on
   pub served_by : (from to : Between D) (count most before left : ℕ) (now : Callers) (shown seen : Option (List Begun)) → now.came ≤ most
       → Hosts Serves from to (callers 0 (replicate count None)) now before left shown seen → Served Serves most from to shown seen
   served_by from to count most before left now shown seen within x =
@@ -150,7 +150,7 @@ module _ {D : Type 0} (Serves : D → Tick → Message → Answer → D → Type
   served_none from to most shown seen same unseen =
       served_by from to 0 most 0 0 (callers 0 []) shown seen (omega arith) (hosts_none from to (callers 0 []) (callers 0 []) 0 0 shown seen same refl refl unseen)
 
-  -- a house that couldn't be opened
+  -- a server that couldn't be opened
   pub answers_none : (from to : Between D) (most : ℕ) (shown seen : Option (List Begun)) (fault : RunFault) → to ≡ from → seen ≡ shown → EndsAtOnce fault
       → AnswersCallers Serves most from to shown seen (Err fault)
   unfolding served_none served_by

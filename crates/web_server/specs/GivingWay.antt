@@ -1,4 +1,4 @@
--- Whose place is given to another caller.
+-- Whose slot is given to another caller.
 use Rattle.std.specs.Prelude.{◌≡◌, ◌+◌, ◌-◌, ◌^◌, ◌≤◌, ◌<◌, ◌&&◌, ◌||◌, ◌≢◌, ℕ, zero, suc, min, nat_le, nat_lt, List, Option, Some, None, if◌then◌else◌, slice_get}
 use Rattle.web_connections.specs.declared.phase.Needs.{Needs}
 use Rattle.web_connections.specs.declared.phase.Needs.TheVariants as needs
@@ -40,21 +40,21 @@ abbrev pub readiness_from : Option Timer → Needs → Load → ℕ → Option �
 readiness_from None needs load now = None
 readiness_from (Some timer) needs load now = readiness_of timer needs load now
 
--- the crowd with whoever is at one more place
+-- the load with whoever is at one more slot
 abbrev pub load_at : Option Timer → Needs → Load → Load
 load_at None needs load = load
 load_at (Some timer) needs load = load_with timer needs load
 
--- how many are between two requests, and how many within one, at the first so many places
+-- how many are between two requests, and how many within one, at the first so many slots
 unfoldable pub load_to : List Timer → Callers → ℕ → Load
 load_to timer callers zero = record { between = 0; within = 0; unsent = 0 }
 load_to timer callers (suc n) = load_at (slice_get timer n) (slot_needs (at_slot n callers)) (load_to timer callers n)
 
--- how readily whoever is at a place goes, among all who are there
+-- how readily whoever is at a slot goes, among all who are there
 unfoldable pub readiness_at : List Timer → Callers → ℕ → ℕ → Option ℕ
 readiness_at timer callers now slot = readiness_from (slice_get timer slot) (slot_needs (at_slot slot callers)) (load_to timer callers 128) now
 
--- Of the first so many places: nobody may go; or one goes first, than whom nobody is readier.
+-- Of the first so many slots: nobody may go; or one goes first, than whom nobody is readier.
 abbrev pub GoesFirst : (ℕ → Option ℕ) → ℕ → Option ℕ → Type 0
 GoesFirst ready n None = (slot : ℕ) → slot < n → ready slot ≡ None
 GoesFirst ready n (Some first) = (most : ℕ) × (ready first ≡ Some most) × ((slot r : ℕ) → slot < n → ready slot ≡ Some r → r ≤ most)
@@ -64,11 +64,11 @@ abbrev pub without : Option ℕ → Callers → Callers
 without None callers = callers
 without (Some slot) callers = with_slot slot None callers
 
--- A caller more comes: where a place is free nobody leaves, else whoever goes first, of all 128 places.
+-- A caller more comes: where a slot is free nobody leaves, else whoever goes first, of all 128 slots.
 pub record MakesRoom (ready : ℕ → Option ℕ) (old new : Callers) : Type 0 where
   pub free : (slot : ℕ) → IsFree slot old → new ≡ old
   pub full : ((slot : ℕ) → IsFree slot old → ⊥) → (first : Option ℕ) × GoesFirst ready 128 first × (new ≡ without first old)
 
--- nobody is at any of the 128 places
+-- nobody is at any of the 128 slots
 abbrev pub NobodyIsThere : Callers → Type 0
 NobodyIsThere callers = (slot : ℕ) → slot < 128 → slot_needs (at_slot slot callers) ≡ needs.Nothing

@@ -1,4 +1,4 @@
--- Callers at once, at one desk.
+-- Callers at once, at one handler.
 use Rattle.std.specs.Prelude.{◌≡◌, ◌+◌, ◌≤◌, ◌⊎◌, ⊤, ℕ, zero, suc, List, [], ◌∷◌, ◌++◌, None, Option, Result, Ok, Err}
 use Rattle.base_values.specs.declared.answer.Answer.{Answer}
 use Rattle.base_devices.specs.declared.device.Tick.{Tick}
@@ -36,16 +36,16 @@ pub record Clears (old new : Callers) : Type 0 where
   pub connections : Rearranged [] old new
   pub came : new.came ≡ old.came
 
--- What a deed of a house leaves in which nobody has a turn: callers came whom the network let in, and some left; each who came was one of those who
--- were to be let in still.
+-- What a deed of a server leaves in which nobody has a turn: callers came whom the network accepted, and some left; each who came was one of those who
+-- were to be accepted still.
 pub record Reassigns (old new : Callers) (before left : ℕ) (shown seen : Option (List Begun)) : Type 0 where
   pub came : List Begun
   pub told : Adds shown came seen
   pub connections : Rearranged came old new
   pub count : new.came + left ≤ old.came + before
 
--- What a deed of a house leaves in which callers have turns too: callers came whom the network let in, and some left; each who came was one
--- of those who were to be let in still.
+-- What a deed of a server leaves in which callers have turns too: callers came whom the network accepted, and some left; each who came was one
+-- of those who were to be accepted still.
 pub record Hosts {D : Type 0} (Serves : D → Tick → Message → Answer → D → Type 0) (from to : Between D) (old new : Callers) (before left : ℕ) (shown seen : Option (List Begun)) : Type 0 where
   pub came : List Begun
   pub told : Adds shown came seen
@@ -53,7 +53,7 @@ pub record Hosts {D : Type 0} (Serves : D → Tick → Message → Answer → D 
   pub count : new.came + left ≤ old.came + before
 
 -- At most so many callers came in, many of them at once, and each has the conversation of its own bytes. They are, in order, some of those whom the
--- network let in.
+-- network accepted.
 pub record Served {D : Type 0} (Serves : D → Tick → Message → Answer → D → Type 0) (most : ℕ) (old new : Between D) (shown seen : Option (List Begun)) : Type 0 where
   pub came : ℕ
   pub within : came ≤ most
@@ -63,23 +63,23 @@ pub record Served {D : Type 0} (Serves : D → Tick → Message → Answer → D
   pub told : Adds shown begun seen
   pub among : AreAmong all.firsts begun
 
--- how many callers are let in: so many, and for 0 as many as a `u64` counts, which no house sees the end of
+-- how many callers are accepted: so many, and for 0 as many as a `u64` counts, which no server sees the end of
 abbrev pub most_of : ℕ → ℕ
 most_of zero = 18446744073709551615
 most_of (suc n) = suc n
 
--- Why that ends early: no more callers can be let in; or there is no room for a house, or where it listens couldn't be said, and then nobody came.
+-- Why that ends early: no more callers can be accepted; or there is no room for a server, or where it listens couldn't be said, and then nobody came.
 abbrev pub EndsEarly : RunFault → ℕ → Type 0
 EndsEarly faults.Listen n = ⊤
 EndsEarly faults.Memory n = n ≡ 0
 EndsEarly (faults.Run failures.Output) n = n ≡ 0
 EndsEarly fault n = ⊥
 
--- a house that can't be opened
+-- a server that can't be opened
 abbrev pub EndsAtOnce : RunFault → Type 0
 EndsAtOnce fault = (fault ≡ faults.Listen) ⊎ (fault ≡ faults.Memory)
 
--- rounds end early only where no more callers can be let in; or there is no room for them, and nothing happened
+-- rounds end early only where no more callers can be accepted; or there is no room for them, and nothing happened
 abbrev pub RoundsEnd : Result (Unit {0}) RunFault → Callers → Callers → Type 0
 RoundsEnd (Ok u) old new = ⊤
 RoundsEnd (Err fault) old new = (fault ≡ faults.Listen) ⊎ ((fault ≡ faults.Memory) × (new ≡ old))

@@ -20,7 +20,7 @@ abbrev pub load_of_sending : Option ℕ → Load → Load
 load_of_sending None load = load
 load_of_sending (Some unsent) load = record load { unsent = one_more load.unsent }
 
--- the crowd with one caller more
+-- the load with one caller more
 abbrev pub load_with : Timer → Needs → Load → Load
 load_with timer needs.Bytes load = load_of_waiting timer.began load
 load_with timer needs.Room load = load_of_sending timer.unsent load
@@ -64,22 +64,22 @@ unsent_after false unsent now = None
 abbrev pub timer_after : Timer → Needs → Needs → Bool → ℕ → Timer
 timer_after timer before after unsent now = record { waits = now; began = began_after before after timer.began now; unsent = unsent_after unsent timer.unsent now }
 
--- since when callers wait, with what is so of the caller at a place behind its turn; where its conversation is over nothing is kept
+-- since when callers wait, with what is so of the caller at a slot behind its turn; where its conversation is over nothing is kept
 abbrev pub timers_after : ℕ → Option Timer → Needs → Needs → Bool → ℕ → List Timer → List Timer
 timers_after slot found before needs.Nothing unsent now timer = timer
 timers_after slot None before after unsent now timer = timer
 timers_after slot (Some s) before after unsent now timer = slice_set timer slot (timer_after s before after unsent now)
 
--- whoever is at a place is late if its time is up; a free place needs nothing
+-- whoever is at a slot is late if its time is up; a free slot needs nothing
 abbrev pub is_late : Option Timer → ℕ → Option Caller → Bool
 is_late None now whoever = false
 is_late (Some timer) now whoever = is_up timer (slot_needs whoever) now
 
--- who is at a place behind a look at it
+-- who is at a slot behind a look at it
 abbrev pub stays : Option Timer → ℕ → Option Caller → Option Caller
 stays timer now whoever = if is_late timer now whoever then None else whoever
 
--- A look at all 128 places: those leave whose time is up, and nobody else.
+-- A look at all 128 slots: those leave whose time is up, and nobody else.
 pub record EndsLate (timer : List Timer) (now : ℕ) (old new : Callers) : Type 0 where
   pub came : new.came ≡ old.came
   pub slots : (slot : ℕ) → slot < 128 → at_slot slot new ≡ stays (slice_get timer slot) now (at_slot slot old)

@@ -1,11 +1,11 @@
-//! What a house is opened on.
+//! What a server is opened on.
 
 ghost use Rattle.std.specs.Prelude.{◌≡◌};
 
 use crate::log::Log;
 use std::alloc::Global;
 
-/// What a house is opened on: the system whose clock it reads, its memory, and where it tells of its requests and connections.
+/// What a server is opened on: the system whose clock it reads, its memory, and where it tells of its requests and connections.
 #[derive(Drop)]
 pub struct Host<'a, R> {
     pub(crate) rt: &'a R,

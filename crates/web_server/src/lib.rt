@@ -1,4 +1,4 @@
-//! How does one thread serve many callers over the network, at one desk?
+//! How does one thread serve many callers over the network, at one handler?
 #![tactic(auto)]
 
 pub mod clock;

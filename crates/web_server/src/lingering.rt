@@ -24,7 +24,7 @@ struct Lingering {
     read: usize,
 }
 
-/// Connections that ended, each at a place.
+/// Connections that ended, each at a slot.
 #[derive(Drop)]
 pub(crate) struct Lingerers {
     slots: Vec<Option<Lingering>>,
@@ -66,7 +66,7 @@ fn read_away(
 }
 
 impl Lingerers {
-    /// As many places, and no connection at any.
+    /// As many slots, and no connection at any.
     pub(crate) fn new(alloc: Global, count: usize) -> Result<Lingerers, AllocError> {
         let mut slots = Vec::new(alloc);
         for _ in 0..count {
@@ -80,12 +80,12 @@ impl Lingerers {
         self.slots.iter().all(|it| it.is_none())
     }
 
-    // The first place that is free, or else the first one.
+    // The first slot that is free, or else the first one.
     fn slot(&self) -> usize {
         self.slots.iter().position(|it| it.is_none()).unwrap_or(0)
     }
 
-    /// A connection ends. Its events come under its place, behind so many others.
+    /// A connection ends. Its events come under its slot, behind so many others.
     pub(crate) fn add(&mut self, stream: TcpStream, registry: &Registry, behind: usize, now: u64) {
         let slot = self.slot();
         let token = Token(behind.saturating_add(slot));
@@ -94,7 +94,7 @@ impl Lingerers {
         }
     }
 
-    /// An event of the connection at a place.
+    /// An event of the connection at a slot.
     pub(crate) fn hear(&mut self, slot: usize, registry: &Registry, token: Token, input: &mut [u8])
         ensures { length input.new ≡ length input.old }
     {

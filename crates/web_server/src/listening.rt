@@ -1,4 +1,4 @@
-//! A desk at an address.
+//! A handler at an address.
 
 ghost use Rattle.std.specs.Prelude.{◌≡◌, None, Some, OnOk};
 ghost use Rattle.base_devices.specs.Blanks.{IsBlankOf};

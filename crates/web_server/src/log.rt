@@ -1,4 +1,4 @@
-//! What a house tells on standard error of its callers. No clause speaks of what is told.
+//! What a server tells on standard error of its callers. No clause speaks of what is told.
 
 ghost use Rattle.std.specs.Prelude.{◌≡◌, None, false};
 
@@ -24,7 +24,7 @@ pub(crate) enum Closed {
     Done,
     /// Its time was up.
     Late,
-    /// Another caller had its place.
+    /// Another caller had its slot.
     GaveWay,
     /// An answer couldn't be brought.
     Unreachable,
@@ -103,7 +103,7 @@ fn begun_at<R: Clock>(rt: &R, is_asked: bool) -> Option<Instant>
     }
 }
 
-/// Where a house tells of its file, its requests and its connections: standard error, or nowhere. A line for which memory is refused isn't written.
+/// Where a server tells of its file, its requests and its connections: standard error, or nowhere. A line for which memory is refused isn't written.
 #[derive(Drop)]
 pub struct Log<'a, R> {
     rt: &'a R,
@@ -115,7 +115,7 @@ pub struct Log<'a, R> {
 }
 
 impl<'a, R: Clock + System + Console> Log<'a, R> {
-    /// A log of the house whose shop is in that file, where one is asked for and the clock can be read.
+    /// A log of the server whose shop is in that file, where one is asked for and the clock can be read.
     pub fn new(rt: &'a R, alloc: Global, file: &'a str, is_asked: bool) -> Log<'a, R>
         ensures { is_asked ≡ false → result.begun ≡ None }
     {

@@ -1,4 +1,4 @@
-//! A desk whose requests are told of.
+//! A handler whose requests are told of.
 
 ghost use Rattle.std.specs.Prelude.{◌≡◌};
 
@@ -20,7 +20,7 @@ pub trait NamesCaller {
         ensures { self.new ≡ self.old };
 }
 
-/// A desk whose requests are told of: it answers as the one below it does.
+/// A handler whose requests are told of: it answers as the one below it does.
 #[derive(Drop)]
 pub struct Logged<'a, R, D: Handler> {
     log: &'a Log<'a, R>,
@@ -35,7 +35,7 @@ impl<'a, R, D: Handler> Model for Logged<'a, R, D> {
 }
 
 impl<'a, R, D: Handler> Logged<'a, R, D> {
-    /// A desk whose requests are told of in a log.
+    /// A handler whose requests are told of in a log.
     pub fn new(log: &'a Log<'a, R>, handler: D) -> Self
         ensures { result ≡ handler }
     {
@@ -46,7 +46,7 @@ impl<'a, R, D: Handler> Logged<'a, R, D> {
         }
     }
 
-    /// The desk itself.
+    /// The handler itself.
     pub fn into_handler(self) -> D
         ensures { result ≡ self.entry }
     {

@@ -1,4 +1,4 @@
-//! A house that is open: its callers, and when they have to go.
+//! A server that is open: its callers, and when they have to go.
 
 ghost use Rattle.std.specs.Prelude.{◌≡◌, ◌+◌, ◌<◌, ◌≤◌, [], ◌∷◌, None, true, replicate, slice_get, IfOk, IsOkUnless};
 ghost use Rattle.web_cli.specs.declared.fault.RunFault.TheVariants.{Listen};
@@ -26,25 +26,25 @@ use web_connections::{Context, Connections, Needs};
 /// How many callers are there at once at most.
 pub(crate) const SLOTS: usize = 128;
 
-/// How many are let in at most before the others have their turns.
+/// How many are accepted at most before the others have their turns.
 const AT_ONCE: u32 = 16;
 
-/// A house that is open.
+/// A server that is open.
 #[derive(Drop)]
 pub(crate) struct Server<'a, R, E: Ends> {
     log: &'a Log<'a, R>,
     connections: Connections<E>,
     timers: Vec<Timer>,
-    // How many more callers are let in.
+    // How many more callers are accepted.
     left: u64,
-    // Whether somebody may be at the door.
+    // Whether somebody may be waiting to be accepted.
     may_accept: bool,
     // Whether the system had no file or no memory for one, lately.
     lacks_files: bool,
 }
 
 impl<'a, R: Clock + System + Console, E: Ends> Server<'a, R, E> {
-    /// A house into which nobody came yet.
+    /// A server into which nobody came yet.
     pub(crate) fn new(alloc: Global, log: &'a Log<'a, R>, left: u64) -> Result<Self, AllocError>
         ensures connections { IfOk result (λ server. server.connections ≡ callers 0 (replicate 128 None)) }
         ensures left { IfOk result (λ server. server.left ≡ left) }
@@ -73,7 +73,7 @@ impl<'a, R: Clock + System + Console, E: Ends> Server<'a, R, E> {
         network.is_quiet()
     }
 
-    /// Whether all who were to be let in have come and gone.
+    /// Whether all who were to be accepted have come and gone.
     pub(crate) fn is_over<N: Network<E>>(&self, network: &N) -> bool
         ensures left { result ≡ true → self.now.left ≡ 0 }
         ensures nobody { result ≡ true → NobodyIsThere self.now.connections }
@@ -81,7 +81,7 @@ impl<'a, R: Clock + System + Console, E: Ends> Server<'a, R, E> {
         self.left == 0 && self.is_empty(network)
     }
 
-    /// Whether somebody may be at the door for whom there is a place, or one whose caller has to go.
+    /// Whether somebody may be waiting to be accepted for whom there is a slot, or one whose caller has to go.
     pub(crate) fn can_accept(&self, now: u64) -> bool
         ensures { result ≡ true → 0 < self.now.left }
     {
@@ -91,7 +91,7 @@ impl<'a, R: Clock + System + Console, E: Ends> Server<'a, R, E> {
             && (self.connections.free_slot().is_some() || self.first_to_go(now).is_some())
     }
 
-    // Somebody is at the door.
+    // Somebody is waiting to be accepted.
     fn note_ready(&mut self)
         ensures connections { self.new.connections ≡ self.old.connections }
         ensures left { self.new.left ≡ self.old.left }
@@ -99,7 +99,7 @@ impl<'a, R: Clock + System + Console, E: Ends> Server<'a, R, E> {
         self.may_accept = true;
     }
 
-    // The caller at a place leaves.
+    // The caller at a slot leaves.
     #[tactic(auto, using(crate::proofs::RoundLemmas::clears_leaves, crate::proofs::RoundLemmas::clears_none))]
     fn close<N: Network<E>>(&mut self, network: &mut N, slot: usize, why: Closed, now: u64)
         ensures leaves { self.new.connections ≡ with_slot slot None self.old.connections }
@@ -115,7 +115,7 @@ impl<'a, R: Clock + System + Console, E: Ends> Server<'a, R, E> {
         }
     }
 
-    // A crowd with whoever is at a place.
+    // A load with whoever is at a slot.
     fn load_at(&self, slot: usize, load: Load) -> Load
         ensures { result ≡ load_at (slice_get self.now.timers.items slot)
             (slot_needs (at_slot slot self.now.connections)) load }
@@ -138,7 +138,7 @@ impl<'a, R: Clock + System + Console, E: Ends> Server<'a, R, E> {
         load
     }
 
-    // How readily the place of a caller is given to another one, in the crowd of all.
+    // How readily the slot of a caller is given to another one, in the load of all.
     #[tactic(auto, unfolding(crate::specs::GivingWay::readiness_at))]
     fn readiness(&self, slot: usize, load: Load, now: u64) -> Option<u64>
         requires { load ≡ load_to self.now.timers.items self.now.connections 128 }
@@ -148,7 +148,7 @@ impl<'a, R: Clock + System + Console, E: Ends> Server<'a, R, E> {
         timer.readiness(self.connections.needs(slot), load, now)
     }
 
-    // The place whose caller has to go first where another one comes: one of the greater group, of those within a request and those between two.
+    // The slot whose caller has to go first where another one comes: one of the greater group, of those within a request and those between two.
     fn first_to_go(&self, now: u64) -> Option<usize>
         ensures { GoesFirst (readiness_at self.now.timers.items self.now.connections now) 128 result }
     {
@@ -166,7 +166,7 @@ impl<'a, R: Clock + System + Console, E: Ends> Server<'a, R, E> {
         found
     }
 
-    // A caller takes a place that is free.
+    // A caller takes a slot that is free.
     #[tactic(auto, using(crate::proofs::RoundLemmas::accepts_one, crate::proofs::RoundLemmas::accepts_nobody))]
     fn assign<N: Network<E>>(
         &mut self,
@@ -195,7 +195,7 @@ impl<'a, R: Clock + System + Console, E: Ends> Server<'a, R, E> {
         }
     }
 
-    // Where no place is free the caller leaves who has to go first.
+    // Where no slot is free the caller leaves who has to go first.
     #[tactic(auto, using(crate::proofs::RoundLemmas::clears_none))]
     fn make_room<N: Network<E>>(&mut self, network: &mut N, now: u64)
         ensures listens { N.listens network.new ≡ N.listens network.old }
@@ -230,7 +230,7 @@ impl<'a, R: Clock + System + Console, E: Ends> Server<'a, R, E> {
         }
     }
 
-    // Lets nobody in till the next look round, where somebody is there whose leaving frees what the system lacks.
+    // Accepts nobody till the next look round, where somebody is there whose leaving frees what the system lacks.
     fn wait_for_files<N: Network<E>>(&mut self, network: &N) -> Result<bool, RunFault>
         ensures connections { self.new.connections ≡ self.old.connections }
         ensures left { self.new.left ≡ self.old.left }
@@ -243,7 +243,7 @@ impl<'a, R: Clock + System + Console, E: Ends> Server<'a, R, E> {
         Ok(false)
     }
 
-    // Lets one in. Whether another one may be at the door.
+    // Accepts one. Whether another one may be waiting to be accepted.
     #[tactic(auto, using(crate::proofs::RoundLemmas::reassigns_of, crate::proofs::RoundLemmas::reassigns_clears, crate::proofs::RoundLemmas::clears_none))]
     fn accept_one<N: Network<E>>(
         &mut self,
@@ -275,7 +275,7 @@ impl<'a, R: Clock + System + Console, E: Ends> Server<'a, R, E> {
         }
     }
 
-    /// Lets in who is at the door, as long as there is a place, or one whose caller has to go.
+    /// Accepts who is waiting to be accepted, as long as there is a slot, or one whose caller has to go.
     pub(crate) fn accept<N: Network<E>>(
         &mut self,
         alloc: Global,
@@ -321,7 +321,7 @@ impl<'a, R: Clock + System + Console, E: Ends> Server<'a, R, E> {
         }
     }
 
-    // A turn of the caller at a place.
+    // A turn of the caller at a slot.
     fn turn<N: Network<E>, L: Ledger, M: Ledger, T: Ticks, D: Handler + NamesCaller>(
         &mut self,
         network: &mut N,
@@ -349,7 +349,7 @@ impl<'a, R: Clock + System + Console, E: Ends> Server<'a, R, E> {
         }
     }
 
-    /// What happened: somebody is at the door, a caller has a turn, or a connection that ended is read.
+    /// What happened: somebody is waiting to be accepted, a caller has a turn, or a connection that ended is read.
     pub(crate) fn hear<N: Network<E>, L: Ledger, M: Ledger, T: Ticks, D: Handler + NamesCaller>(
         &mut self,
         network: &mut N,
@@ -374,7 +374,7 @@ impl<'a, R: Clock + System + Console, E: Ends> Server<'a, R, E> {
         }
     }
 
-    // Whether the time of whoever is at a place is up.
+    // Whether the time of whoever is at a slot is up.
     fn is_late(&self, slot: usize, now: u64) -> bool
         ensures { result ≡ is_late (slice_get self.now.timers.items slot) now
             (at_slot slot self.now.connections) }
@@ -385,7 +385,7 @@ impl<'a, R: Clock + System + Console, E: Ends> Server<'a, R, E> {
         }
     }
 
-    // The caller at a place leaves if its time is up.
+    // The caller at a slot leaves if its time is up.
     #[tactic(auto, using(crate::proofs::RoundLemmas::clears_none, crate::proofs::GivingWayLemmas::with_same))]
     fn end_late<N: Network<E>>(&mut self, network: &mut N, slot: usize, now: u64)
         ensures listens { N.listens network.new ≡ N.listens network.old }
@@ -402,7 +402,7 @@ impl<'a, R: Clock + System + Console, E: Ends> Server<'a, R, E> {
         }
     }
 
-    /// Ends what takes too long, and looks at the door again where there was no file for a caller.
+    /// Ends what takes too long, and looks waiting to be accepted again where there was no file for a caller.
     pub(crate) fn look_round<N: Network<E>>(&mut self, network: &mut N, now: u64)
         ensures listens { N.listens network.new ≡ N.listens network.old }
         ensures late { EndsLate self.old.timers.items now self.old.connections self.new.connections }

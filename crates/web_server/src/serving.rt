@@ -24,13 +24,13 @@ use web_connection::{Handler, ReadBuffer};
 use web_sockets::{Ends, Network};
 use web_connections::Context;
 
-/// How much is heard at most before a house looks round.
+/// How much is heard at most before a server looks round.
 const AT_ONCE: u32 = 256;
 
-/// How long a house waits for an event at most, in milliseconds.
+/// How long a server waits for an event at most, in milliseconds.
 const ROUND_MS: u64 = 250;
 
-/// The time of a house: milliseconds since it opened.
+/// The time of a server: milliseconds since it opened.
 #[derive(Drop)]
 struct Watch<'a, C> {
     clock: &'a C,
@@ -66,7 +66,7 @@ impl<C: Clock> Watch<'_, C> {
     }
 }
 
-// How many callers are let in.
+// How many callers are accepted.
 fn most_of(connections: u64) -> u64
     ensures { result ≡ most_of connections }
 {
@@ -121,7 +121,7 @@ fn hear_all<
     }
 }
 
-// A round: hears what happened, and lets in who is at the door.
+// A round: hears what happened, and accepts who is waiting to be accepted.
 #[tactic(auto, using(crate::proofs::RoundLemmas::happened_none))]
 fn run_round<
     R: Clock + System + Console,
@@ -153,7 +153,7 @@ fn run_round<
     server.accept(context.alloc, network, now)
 }
 
-// Rounds, one after another, till all who were to be let in have come and gone.
+// Rounds, one after another, till all who were to be accepted have come and gone.
 fn run_rounds<
     R: Clock + System + Console,
     E: Ends,
@@ -186,7 +186,7 @@ fn run_rounds<
     Ok(())
 }
 
-// Serves rounds, with room for what one read gives, and with a ledger for each count of the page on which answers are written.
+// Serves rounds, with room for what one read gives, and with a ledger for each count of the output on which answers are written.
 #[tactic(auto, using(crate::proofs::RoundLemmas::rounds_end, crate::proofs::RoundLemmas::happened_none, crate::proofs::RoundLemmas::hosts_none))]
 fn run_with_ledgers<
     R: Clock + System + Console,
@@ -234,9 +234,9 @@ fn run_with_ledgers<
     run_rounds(&mut watch, network, server, &mut context)
 }
 
-/// Answers so many callers, and for 0 without end, many of them at once. A caller that was gone before it was let in counts, and what becomes of one
-/// connection ends that connection alone. Each request is answered at a tick that was given for it. Faults: 6 where there is no memory for the house, and
-/// nobody is answered; 81 where no more callers can be let in, but for want of files or memory while somebody is there. The desk is told before
+/// Answers so many callers, and for 0 without end, many of them at once. A caller that was gone before it was accepted counts, and what becomes of one
+/// connection ends that connection alone. Each request is answered at a tick that was given for it. Faults: 6 where there is no memory for the server, and
+/// nobody is answered; 81 where no more callers can be accepted, but for want of files or memory while somebody is there. The handler is told before
 /// each turn whose it is, and the log of each connection that ends.
 pub fn run_event_loop<
     R: Clock + System + Console,

@@ -1,4 +1,4 @@
-//! How long a house waits for a caller.
+//! How long a server waits for a caller.
 
 ghost use Rattle.std.specs.Prelude.{◌≡◌, ◌&&◌, ◌||◌, None, Some, nat_lt, IfSome};
 ghost use Rattle.web_server.specs.GivingWay.{MayGo, beyond, readiness_of};
@@ -18,10 +18,10 @@ const WRITE_TIMEOUT_MS: u64 = 10_000;
 /// How long bytes may be unsent without a break.
 const SEND_TIMEOUT_MS: u64 = 30_000;
 
-/// How long a request has at least where another caller wants its place.
+/// How long a request has at least where another caller wants its slot.
 const GRACE_MS: u64 = 1_000;
 
-/// How long the next request has to come at least where another caller wants the place.
+/// How long the next request has to come at least where another caller wants the slot.
 const PAUSE_MS: u64 = 250;
 
 /// By how much whoever is between two requests is readier to go than whoever is within one.
@@ -47,7 +47,7 @@ impl Load {
         }
     }
 
-    /// A crowd with one caller more. Whoever has an answer underway is in neither group.
+    /// A load with one caller more. Whoever has an answer underway is in neither group.
     pub(crate) fn with(self, timer: Timer, needs: Needs) -> Load
         ensures { result ≡ load_with timer needs self }
     {
@@ -86,7 +86,7 @@ pub(crate) struct Timer {
 
 impl Timer {
     /// A caller that came at that moment. It is within its first request from then on, also where it sent nothing yet: else callers that send nothing
-    /// would take the places of those who pause between two requests.
+    /// would take the slots of those who pause between two requests.
     pub(crate) fn new(now: u64) -> Timer
         ensures { result ≡ record { waits = now; began = Some now; unsent = None } }
     {
@@ -139,7 +139,7 @@ impl Timer {
         }
     }
 
-    /// How readily its place is given to another caller, none where it isn't, as within a grace. The one to go is of the greater group: where more
+    /// How readily its slot is given to another caller, none where it isn't, as within a grace. The one to go is of the greater group: where more
     /// callers are within a request than between two, nobody goes who is between two, and whose request began first goes first; else whoever has
     /// waited longest between two goes first, and after these whoever is within one. Whoever has an answer underway goes only where all have.
     pub(crate) fn readiness(self, needs: Needs, load: Load, now: u64) -> Option<u64>

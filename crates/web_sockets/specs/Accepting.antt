@@ -14,7 +14,7 @@ pub record Begun : Type 0 where
 abbrev pub as_begun : Option (List ℕ) → Option (List ℕ) → Begun
 as_begun coming gone = record { coming = coming; gone = gone }
 
--- a look at the door: whoever is there came behind all others; else nobody did
+-- a look waiting to be accepted: whoever is there came behind all others; else nobody did
 abbrev pub AcceptsNext : {E : Type 0} → (E → Option (List ℕ)) → (E → Option (List ℕ)) → Result (Accepted E) Refused → Option (List Begun) → Option (List Begun) → Type 0
 AcceptsNext left taken (Ok (accepted.Here ends)) old new = Adds old (as_begun (left ends) (taken ends) ∷ []) new
 AcceptsNext left taken (Ok accepted.Gone) old new = new ≡ old

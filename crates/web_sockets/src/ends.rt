@@ -47,7 +47,7 @@ pub trait Ends: Drop {
         ensures kept { OnErr result (Adds (taken self.old) [] (taken self.new)) }
         ensures same { left self.new ≡ left self.old };
 
-    /// Wakes its house once the connection has what is awaited, also where it has it now.
+    /// Wakes its server once the connection has what is awaited, also where it has it now.
     fn wait_for(&mut self, awaited: Awaited) -> Result<(), Refused>
         ensures left { left self.new ≡ left self.old }
         ensures taken { taken self.new ≡ taken self.old };

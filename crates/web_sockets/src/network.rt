@@ -8,7 +8,7 @@ use crate::ends::Ends;
 use base_devices::Refused;
 use std::net::SocketAddr;
 
-/// What a look at the door gave.
+/// What a look waiting to be accepted gave.
 #[derive(Drop)]
 pub enum Accepted<E> {
     /// A caller.
@@ -24,15 +24,15 @@ pub enum Accepted<E> {
 /// Of what something is to be heard.
 #[derive(Clone, Copy, Drop, PartialEq, Eq)]
 pub enum Event {
-    /// The door: somebody may be there.
+    /// The listener: somebody may be there.
     Listener,
-    /// The caller at a place.
+    /// The caller in a slot.
     Slot(usize),
     /// A connection that ended, which the network sees off by itself.
     Closed(usize),
 }
 
-/// A network at which a house listens, and its callers. Whom it lets in, and where it listens, has a name here: whoever is handed a network can't have
+/// A network at which a server listens, and its callers. Whom it lets in, and where it listens, has a name here: whoever is handed a network can't have
 /// callers from elsewhere, or listen anywhere else and say that it does.
 pub trait Network<E: Ends> {
     // at which address it listens, if it does
@@ -46,12 +46,12 @@ pub trait Network<E: Ends> {
         ensures listens { OnOk result (listens self.new ≡ Some addr) }
         ensures came { came self.new ≡ came self.old };
 
-    /// The next who is at the door.
+    /// The next who is waiting to be accepted.
     fn accept_next(&mut self) -> Result<Accepted<E>, Refused>
         ensures listens { listens self.new ≡ listens self.old }
         ensures came { AcceptsNext E.left E.taken result (came self.old) (came self.new) };
 
-    /// A caller has this place from now on: what is to be heard of it comes under that.
+    /// A caller has this slot from now on: what is to be heard of it comes under that.
     fn assign(&mut self, slot: usize, ends: &mut E) -> Result<(), Refused>
         ensures listens { listens self.new ≡ listens self.old }
         ensures came { came self.new ≡ came self.old }
@@ -68,7 +68,7 @@ pub trait Network<E: Ends> {
         ensures listens { listens self.new ≡ listens self.old }
         ensures came { came self.new ≡ came self.old };
 
-    /// Sees off a caller who left. It was at that place.
+    /// Sees off a caller who left. It was in that slot.
     fn close(&mut self, ends: E, now: u64)
         ensures listens { listens self.new ≡ listens self.old }
         ensures came { came self.new ≡ came self.old };

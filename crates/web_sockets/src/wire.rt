@@ -35,7 +35,7 @@ pub trait Wire: Drop {
         ensures kept { OnErr result (Adds (taken self.old) [] (taken self.new)) }
         ensures same { left self.new ≡ left self.old };
 
-    /// Has its house be woken once it has what is awaited, also where it has it now.
+    /// Has its server be woken once it has what is awaited, also where it has it now.
     fn wake(&mut self, awaited: Awaited) -> io::Result<()>
         ensures left { left self.new ≡ left self.old }
         ensures taken { taken self.new ≡ taken self.old };
@@ -46,13 +46,13 @@ pub trait Wire: Drop {
 pub struct Tcp<'a> {
     /// The connection.
     pub stream: TcpStream,
-    /// Where its house waits.
+    /// Where its server waits.
     pub registry: &'a Registry,
     /// Under which name it does.
     pub token: Token,
 }
 
-// What wakes a house.
+// What wakes a server.
 fn interest_of(awaited: Awaited) -> Interest {
     match awaited {
         Awaited::Bytes => Interest::READABLE,
@@ -73,7 +73,7 @@ impl Wire for Tcp<'_> {
         self.stream.write(bytes)
     }
 
-    // What is there at the call wakes the house too: nothing is missed that came between a read and this.
+    // What is there at the call wakes the server too: nothing is missed that came between a read and this.
     fn wake(&mut self, awaited: Awaited) -> io::Result<()> {
         self.registry
             .reregister(&mut self.stream, self.token, interest_of(awaited))

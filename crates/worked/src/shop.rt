@@ -14,7 +14,7 @@ pub(crate) struct Answered<T> {
     pub(crate) told: anyhow::Result<Vec<u8>>,
 }
 
-/// A desk that answers a stream.
+/// A handler that answers a stream.
 struct AtHandler<'a, K: Handler> {
     handler: &'a mut K,
 }
@@ -34,7 +34,7 @@ impl<K: Handler> Answers for AtHandler<'_, K> {
     }
 }
 
-// How a case ends and what is written, where this desk answers it.
+// How a case ends and what is written, where this handler answers it.
 fn answer_at<K: Handler>(alloc: Global, case: &[u8], handler: &mut K) -> anyhow::Result<Vec<u8>> {
     let mut at = AtHandler { handler };
     let told = answer_case(alloc, case, WHOLE, &mut at);
@@ -42,7 +42,7 @@ fn answer_at<K: Handler>(alloc: Global, case: &[u8], handler: &mut K) -> anyhow:
     told
 }
 
-// How a case ends and what is written, and the tables of the desk that answers it.
+// How a case ends and what is written, and the tables of the handler that answers it.
 fn answer_shop<T: Tables + Drop, B: Dues + Drop>(
     alloc: Global,
     case: &[u8],

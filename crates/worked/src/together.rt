@@ -20,7 +20,7 @@ use web_handler::{Office, ShopHandler};
 #[derive(Clone, Copy)]
 struct NewShops;
 
-// What callers are told at a desk, with a ledger for the failures of the clock.
+// What callers are told at a handler, with a ledger for the failures of the clock.
 fn run_together_with<M: Ledger, K: Handler>(
     alloc: Global,
     party: &Party<'_>,
@@ -39,7 +39,7 @@ fn run_together_with<M: Ledger, K: Handler>(
     party.serve(alloc, order, &mut ticks, handler)
 }
 
-// What callers are told at a desk.
+// What callers are told at a handler.
 fn run_together<K: Handler>(
     alloc: Global,
     party: &Party<'_>,
