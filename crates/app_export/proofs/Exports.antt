@@ -18,7 +18,7 @@ use Rattle.file_schema.specs.Tables.{schema}
 use Rattle.file_schema.specs.Parts.{row_shown}
 use Rattle.file_schema.specs.Shapes.{plainly}
 use Rattle.file_schema.proofs.Keyed.{same_filter}
-use Rattle.base_sorted.specs.Tables.{AreInOrder, row_at}
+use Rattle.base_tables.specs.Tables.{AreInOrder, row_at}
 use Rattle.file_meaning.proofs.Order.{rows_at, same_order}
 use Rattle.file_meaning.specs.Stands.{Stand}
 use Rattle.file_rows.specs.Tables.{Tables, Holds}

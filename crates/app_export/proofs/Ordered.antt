@@ -11,8 +11,8 @@ use Rattle.sqlite_value.specs.Order.{value_cmp}
 use Rattle.sqlite_value.proofs.OrderLemmas.{value_cmp-Int}
 use Rattle.sqlite_trees.proofs.ListLemmas.{flat_map_same_on, flat_map_none, IsPermutation-same, IsPermutation-filter, IsPermutation-flat_map_each}
 use Rattle.sqlite_sql.specs.Query.{Output, output_cmp}
-use Rattle.base_sorted.specs.Tables.{InOrderFrom, AreInOrder}
-use Rattle.base_sorted.proofs.Places.{order_weaker}
+use Rattle.base_tables.specs.Tables.{InOrderFrom, AreInOrder}
+use Rattle.base_tables.proofs.Places.{order_weaker}
 use Rattle.file_meaning.proofs.Order.{rows_at, at_above}
 use Rattle.model_rows.specs.declared.rows.Order.{Order}
 use Rattle.model_rows.specs.declared.rows.OrderPos.{OrderPos}

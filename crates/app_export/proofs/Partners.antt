@@ -9,7 +9,7 @@ use Rattle.std.proofs.lemmas.Bool.Decides.{nat_tests}
 use Rattle.sqlite_sql.specs.Ops.{binary}
 use Rattle.file_schema.proofs.Keyed.{equals_rowid}
 use Rattle.file_schema.proofs.Owner.{same_number, stays_true}
-use Rattle.base_sorted.specs.Tables.{InOrderFrom, row_at}
+use Rattle.base_tables.specs.Tables.{InOrderFrom, row_at}
 use Rattle.file_meaning.proofs.Order.{rows_at, at_above}
 use Rattle.file_rows.specs.Cells.{number}
 use Rattle.file_rows.specs.Rows.{position_row, order_row, voucher_row}

@@ -3,7 +3,7 @@ use Rattle.std.proofs.Common.{◌≡◌, ℕ, suc, ◌+◌, ◌-◌, ◌<◌, �
 use Rattle.std.specs.List.{insert, remove, concat}
 use Rattle.std.proofs.lemmas.List.{length-take, length-drop, length-map, take-append-drop, take_at, get_or-take, get_or_default, get_or_past}
 use Rattle.std.proofs.lemmas.Bool.{cases_lt}
-use Rattle.base_sorted.specs.Tables.{IsPlace, IsGap}
+use Rattle.base_tables.specs.Tables.{IsPlace, IsGap}
 use Rattle.base_index.specs.Blocks.{starts_from, start_of, IsChain}
 use Rattle.base_index.proofs.BlockLemmas.{length_starts, start_is, start_next, start_within, count_set, starts_same, starts_more, starts_less, take_starts, without_last, split_concat, split_starts, dropped_starts, dropped_concat, grown_starts, grown_concat}
 

@@ -2,8 +2,8 @@
 use Rattle.std.proofs.Common.{◌≡◌, ℕ, zero, suc, ◌+◌, ◌-◌, ◌<◌, ◌≤◌, List, [], ◌∷◌, length, get_or, take, drop, refl, sym, ap, ◌∙◌, arith}
 use Rattle.std.specs.Prelude.{filter}
 use Rattle.std.proofs.lemmas.Bool.Decides.{nat_tests}
-use Rattle.base_sorted.specs.Tables.{InOrderFrom, AreInOrder, IsPlace, IsGap}
-use Rattle.base_sorted.proofs.Places.{at_least}
+use Rattle.base_tables.specs.Tables.{InOrderFrom, AreInOrder, IsPlace, IsGap}
+use Rattle.base_tables.proofs.Places.{at_least}
 use Rattle.base_index.specs.Entries.{is_between, IsStart}
 
 rises : (n : ℕ) (es : List ℕ) → InOrderFrom (λ n. n) n es → (i j : ℕ) (d : ℕ) → i ≤ j → j < length es → get_or es i d ≤ get_or es j d

@@ -4,7 +4,7 @@ use Rattle.std.specs.Prelude.{◌||◌, not, filter, map}
 use Rattle.std.specs.List.{list_any, remove}
 use Rattle.std.proofs.lemmas.List.{append_assoc, drop_more, take_more_set, drop-set-lt, take-append-le, take-take, length-take, length-drop, length-map, get_or-map, get_or-take, get_or-drop}
 use Rattle.std.proofs.lemmas.Bool.Decides.{nat_tests, eqb_tells}
-use Rattle.base_sorted.specs.Tables.{has, with_row, InOrderFrom, AreInOrder}
+use Rattle.base_tables.specs.Tables.{has, with_row, InOrderFrom, AreInOrder}
 use Rattle.base_index.specs.Entries.{entry, key_of, id_of, has_entry, ids_of, with_entries, without_id, is_between}
 
 -- a number that is put beside others

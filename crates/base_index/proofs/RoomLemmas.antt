@@ -4,8 +4,8 @@ use Rattle.std.specs.List.{insert, remove, concat}
 use Rattle.std.proofs.lemmas.List.{length-set, length-take, length-drop, length-replicate, get_or-set_same, get_or-set_other, get_or-take, get_or_default, get_or_append_left, get_or-append_right, take-append-drop, nil_from_length}
 use Rattle.std.proofs.lemmas.List.Edits.{length-insert, length-remove, get_or-insert_below, get_or-insert_at, get_or-insert_above, get_or-remove_below, get_or-remove_above}
 use Rattle.std.proofs.lemmas.Bool.{cases_lt, cases_order}
-use Rattle.base_sorted.specs.Tables.{InOrderFrom, AreInOrder, IsPlace, IsGap}
-use Rattle.base_sorted.proofs.Places.{order_weaker}
+use Rattle.base_tables.specs.Tables.{InOrderFrom, AreInOrder, IsPlace, IsGap}
+use Rattle.base_tables.proofs.Places.{order_weaker}
 use Rattle.base_index.specs.Blocks.{start_of, excess, split_at, AreBlocks}
 use Rattle.base_index.proofs.Cuts.{less, above_too}
 use Rattle.base_index.proofs.BlockLemmas.{whole, start_next, start_within, all_before, item_at, remove_in, excess_set, excess_at, few_in, without_last, split_concat, split_excess, dropped_concat, dropped_excess, grown_excess}

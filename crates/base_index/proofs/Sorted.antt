@@ -4,10 +4,10 @@ use Rattle.std.specs.List.{Contains}
 use Rattle.std.specs.List.Sorted.{IsStrictlyIncreasing}
 use Rattle.std.proofs.lemmas.Bool.Decides.{nat_tests}
 use Rattle.std.proofs.lemmas.List.Folds.{list_any_at, Any-from_list_any}
-use Rattle.base_sorted.specs.Tables.{has, InOrderFrom, AreInOrder}
-use Rattle.base_sorted.specs.Rising.{rising}
-use Rattle.base_sorted.proofs.Places.{at_least}
-use Rattle.base_sorted.proofs.RisingLemmas.{is_rising}
+use Rattle.base_tables.specs.Tables.{has, InOrderFrom, AreInOrder}
+use Rattle.base_tables.specs.Rising.{rising}
+use Rattle.base_tables.proofs.Places.{at_least}
+use Rattle.base_tables.proofs.RisingLemmas.{is_rising}
 
 increasing : (n : ℕ) (ids : List ℕ) → InOrderFrom (λ n. n) n ids → IsStrictlyIncreasing ids
 increasing n [] h k lt = absurd (omega arith)

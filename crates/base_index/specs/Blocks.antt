@@ -1,7 +1,7 @@
 -- A list in blocks, in order: how many numbers are before each, how a full one is split into two halves, how many numbers the spare ones take.
 use Rattle.std.specs.Prelude.{◌≡◌, ℕ, ◌+◌, ◌-◌, ◌*◌, ◌<◌, ◌≤◌, List, [], ◌∷◌, length, take, drop, slice_index_or, slice_set}
 use Rattle.std.specs.List.{concat, insert}
-use Rattle.base_sorted.specs.Tables.{most_listed}
+use Rattle.base_tables.specs.Tables.{most_listed}
 
 -- the block at a place, and no numbers where there is none
 abbrev pub nth_block : List (List ℕ) → ℕ → List ℕ

@@ -1,7 +1,7 @@
 -- Entries of an index: a key and an id as one number, so that they stand in order of key and then of id.
 use Rattle.std.specs.Prelude.{ℕ, ◌+◌, ◌*◌, ◌/◌, ◌%◌, ◌<◌, ◌≤◌, ◌==◌, Bool, ◌&&◌, not, nat_le, nat_lt, List, length, map, filter, slice_index_or}
 use Rattle.std.specs.List.{list_any}
-use Rattle.base_sorted.specs.Rising.{with_ids}
+use Rattle.base_tables.specs.Rising.{with_ids}
 
 -- the entry of a key and an id
 abbrev pub entry : ℕ → ℕ → ℕ

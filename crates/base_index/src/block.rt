@@ -3,7 +3,7 @@
 ghost use Rattle.std.specs.Prelude.{◌≡◌, ◌≤◌, ◌<◌, ◌+◌, ℕ, [], ◌++◌, length, take, drop, slice_index_or, slice_set, IfOk, IfErr};
 ghost use Rattle.std.specs.List.{insert, remove};
 ghost use Rattle.std.specs.Vec.{vec_capacity};
-ghost use Rattle.base_sorted.specs.Tables.{AreInOrder, IsPlace, IsGap};
+ghost use Rattle.base_tables.specs.Tables.{AreInOrder, IsPlace, IsGap};
 
 use std::alloc::{AllocError, Global};
 use std::marker::Model;

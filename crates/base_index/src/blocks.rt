@@ -2,11 +2,11 @@
 
 ghost use Rattle.std.specs.Prelude.{◌≡◌, ◌≤◌, ◌<◌, ◌+◌, ◌-◌, ◌*◌, ◌↔◌, ℕ, [], length, slice_index_or, slice_set, IsTrue, OnOk, OnErr, IfOk, IfErr};
 ghost use Rattle.std.specs.List.{insert, remove};
-ghost use Rattle.base_sorted.specs.Tables.{AreInOrder, IsPlace, IsGap, most_listed};
+ghost use Rattle.base_tables.specs.Tables.{AreInOrder, IsPlace, IsGap, most_listed};
 
 use crate::block::{HALF, SIZE};
 use crate::chain::{Chain, Spot};
-use base_sorted::MOST_LISTED;
+use base_tables::MOST_LISTED;
 use std::alloc::{AllocError, Global};
 use std::marker::Model;
 
@@ -28,7 +28,7 @@ pub struct Blocks {
 impl Model for Blocks {
     ghost use Rattle.std.specs.Prelude.{ℕ};
     ghost use Rattle.std.specs.List.{concat};
-    ghost use Rattle.base_sorted.specs.Tables.{Table};
+    ghost use Rattle.base_tables.specs.Tables.{Table};
     ghost use Rattle.base_index.specs.Blocks.{AreBlocks};
 
     ghost Value = { Table ℕ };

@@ -3,7 +3,7 @@
 ghost use Rattle.std.specs.Prelude.{◌≡◌, ◌≤◌, ◌<◌, ◌+◌, ◌-◌, ◌*◌, ℕ, List, [], ◌∷◌, ◌++◌, length, map, take, drop, replicate, slice_index, slice_index_or, slice_set, OnOk, OnErr, IfOk, IfErr};
 ghost use Rattle.std.specs.List.{insert, remove, concat};
 ghost use Rattle.std.specs.Vec.{vec_capacity};
-ghost use Rattle.base_sorted.specs.Tables.{AreInOrder, IsPlace, IsGap, most_listed};
+ghost use Rattle.base_tables.specs.Tables.{AreInOrder, IsPlace, IsGap, most_listed};
 ghost use Rattle.base_index.specs.Blocks.{nth_block, start_of, split_at};
 
 use crate::block::{Block, HALF, SIZE};

@@ -1,7 +1,7 @@
 //! What an index has found.
 
 ghost use Rattle.std.specs.Prelude.{◌≡◌, ◌<◌, ◌≤◌, ◌==◌, ◌-◌, ℕ, length, map, take, drop, slice_index_or, IfOk};
-ghost use Rattle.base_sorted.specs.Tables.{most_listed};
+ghost use Rattle.base_tables.specs.Tables.{most_listed};
 ghost use Rattle.base_index.specs.Entries.{id_of};
 
 use crate::blocks::Blocks;
@@ -19,7 +19,7 @@ pub struct Found<'a> {
 
 impl<'a> Model for Found<'a> {
     ghost use Rattle.std.specs.Prelude.{List, ℕ, ◌-◌, ◌≤◌, length, map, take, drop};
-    ghost use Rattle.base_sorted.specs.Tables.{most_listed};
+    ghost use Rattle.base_tables.specs.Tables.{most_listed};
     ghost use Rattle.base_index.specs.Entries.{id_of};
 
     ghost Value = { List ℕ };

@@ -1,7 +1,7 @@
 //! Indexes: which ids have a key.
 
 ghost use Rattle.std.specs.Prelude.{◌≡◌, ◌≤◌, ◌<◌, ◌+◌, ◌++◌, ℕ, [], length, take, drop, OnOk, OnErr};
-ghost use Rattle.base_sorted.specs.Tables.{with_row, without_row, AreInOrder, most_listed};
+ghost use Rattle.base_tables.specs.Tables.{with_row, without_row, AreInOrder, most_listed};
 ghost use Rattle.base_index.specs.Entries.{IsStart, entry, ids_of, ids_between, with_entries, without_id};
 
 use crate::blocks::Blocks;
@@ -19,7 +19,7 @@ pub struct Index {
 
 impl Model for Index {
     ghost use Rattle.std.specs.Prelude.{ℕ};
-    ghost use Rattle.base_sorted.specs.Tables.{Table, AreInOrder};
+    ghost use Rattle.base_tables.specs.Tables.{Table, AreInOrder};
 
     ghost Value = { Table ℕ };
 

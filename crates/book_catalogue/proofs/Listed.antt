@@ -3,9 +3,9 @@ use Rattle.std.proofs.Common.{◌≡◌, ◌≢◌, ℕ, ◌+◌, ◌<◌, ◌�
 use Rattle.std.specs.Prelude.{◌||◌, not, filter, map, if◌then◌else◌}
 use Rattle.std.specs.List.{list_any}
 use Rattle.std.proofs.lemmas.Bool.Decides.{nat_tests, eqb_tells}
-use Rattle.base_sorted.specs.Tables.{has, row_at, with_row, InOrderFrom, AreInOrder}
-use Rattle.base_sorted.proofs.Edits.{row_at-with_row, row_at_above}
-use Rattle.base_sorted.proofs.Places.{order_weaker}
+use Rattle.base_tables.specs.Tables.{has, row_at, with_row, InOrderFrom, AreInOrder}
+use Rattle.base_tables.proofs.Edits.{row_at-with_row, row_at_above}
+use Rattle.base_tables.proofs.Places.{order_weaker}
 use Rattle.base_index.specs.Entries.{has_entry, ids_of, with_entries, without_id}
 use Rattle.base_index.proofs.Sorted.{same_ids}
 use Rattle.base_index.proofs.EntryLemmas.{has_entry-with_entries, has_entry-without_id, has-ids_of, ids_of_rise}

@@ -1,6 +1,6 @@
 -- Which quotas list an item or a variation, as an index tells it.
 use Rattle.std.specs.Prelude.{◌≡◌, ℕ, Bool, false, List, Option, Some, None, if◌then◌else◌, ◌==◌}
-use Rattle.base_sorted.specs.Tables.{has, row_at}
+use Rattle.base_tables.specs.Tables.{has, row_at}
 use Rattle.base_index.specs.Entries.{has_entry}
 use Rattle.model_catalogue.specs.declared.rows.Quota.{Quota}
 

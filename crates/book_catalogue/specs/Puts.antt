@@ -1,6 +1,6 @@
 -- The quotas with one put: it stands in the place of its id.
 use Rattle.std.specs.Prelude.{List}
-use Rattle.base_sorted.specs.Tables.{with_row}
+use Rattle.base_tables.specs.Tables.{with_row}
 use Rattle.model_catalogue.specs.declared.rows.Quota.{Quota}
 
 -- the quotas with this one in the place of its id

@@ -2,7 +2,7 @@
 
 ghost use Rattle.std.specs.Prelude.{◌≡◌, ◌≢◌, ◌≤◌, ◌+◌, Ok, Err, IfOk, IfErr, OnOk, []};
 ghost use Rattle.std.specs.Option.{option_copied};
-ghost use Rattle.base_sorted.specs.Tables.{AreKept, most_listed, with_row};
+ghost use Rattle.base_tables.specs.Tables.{AreKept, most_listed, with_row};
 ghost use Rattle.model_catalogue.specs.CatalogueLists.{item_at, variation_at, quota_at, product_of, base_price, is_active, is_sold, variations_of, with_variations};
 ghost use Rattle.model_catalogue.specs.Kept.{quotas_of};
 ghost use Rattle.model_catalogue.specs.Kept.{quota_weight};
@@ -10,7 +10,7 @@ ghost use Rattle.book_catalogue.specs.Puts.{quotas_with_put};
 
 use crate::members::{list_items, list_variations};
 use base_index::{Found, Index};
-use base_sorted::{Ids, Rows};
+use base_tables::{Ids, Rows};
 use base_values::{Cents, List};
 use model_catalogue::{CatalogueRefusal, Item, ItemRows, Product, Quota, Variation};
 use std::alloc::{AllocError, Global};

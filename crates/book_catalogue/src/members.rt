@@ -8,7 +8,7 @@ ghost use Rattle.book_catalogue.specs.Members.{AreListedItems, AreListedVariatio
 ghost use Rattle.book_catalogue.specs.Puts.{quotas_with_put};
 
 use base_index::Index;
-use base_sorted::{Ids, Rows};
+use base_tables::{Ids, Rows};
 use model_catalogue::Quota;
 
 /// Makes an index of quotas by their items tell of one that will be put.

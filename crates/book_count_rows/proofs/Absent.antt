@@ -3,8 +3,8 @@ use Rattle.std.proofs.Common.{◌≡◌, ◌≢◌, ℕ, ◌⊎◌, inl, inr, Bo
 use Rattle.std.specs.Prelude.{◌||◌, if◌then◌else◌, flat_map}
 use Rattle.std.proofs.lemmas.Bool.{false≢true}
 use Rattle.std.proofs.lemmas.Bool.Decides.{eqb_tells}
-use Rattle.base_sorted.specs.Tables.{has, row_at}
-use Rattle.base_sorted.proofs.Appended.{has-append, neither}
+use Rattle.base_tables.specs.Tables.{has, row_at}
+use Rattle.base_tables.proofs.Appended.{has-append, neither}
 
 pub absent_both : (k : ℕ) (xs ys : List ℕ) → has k (xs ++ ys) ≡ false → (has k xs ≡ false) × (has k ys ≡ false)
 absent_both k xs ys absent = neither (has k xs) (has k ys) (sym (has-append k xs ys) ∙ absent)

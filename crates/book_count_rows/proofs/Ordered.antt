@@ -1,6 +1,6 @@
 -- Ids rise after changes as they did before.
 use Rattle.std.proofs.Common.{List, [], ◌∷◌, arith}
-use Rattle.base_sorted.proofs.Places.{with_row_in_order, without_row_in_order}
+use Rattle.base_tables.proofs.Places.{with_row_in_order, without_row_in_order}
 use Rattle.model_rows.specs.declared.changes.Change.{Change}
 use Rattle.model_rows.specs.declared.changes.Change.TheVariants.{PutQuota, PutVoucher, PutCart, DropVoucher, DropCart}
 use Rattle.model_rows.specs.Change.{after_change, after_all}

@@ -3,9 +3,9 @@ use Rattle.std.proofs.Common.{◌≡◌, ◌≢◌, ℕ, suc, ◌+◌, ◌<◌, 
 use Rattle.std.specs.Prelude.{◌||◌, if◌then◌else◌, flat_map, nat_lt}
 use Rattle.std.specs.List.{AllByRecursion, list_any}
 use Rattle.std.proofs.lemmas.Bool.Decides.{nat_tests, eqb_tells, leb_tells}
-use Rattle.base_sorted.specs.Tables.{has, row_at, InOrderFrom, AreInOrder}
-use Rattle.base_sorted.proofs.Edits.{row_at_above}
-use Rattle.base_sorted.proofs.Places.{order_weaker}
+use Rattle.base_tables.specs.Tables.{has, row_at, InOrderFrom, AreInOrder}
+use Rattle.base_tables.proofs.Edits.{row_at_above}
+use Rattle.base_tables.proofs.Places.{order_weaker}
 use Rattle.model_rows.proofs.EachRow.{all_weaker}
 use Rattle.model_rows.proofs.Found.{each_found}
 use Rattle.book_count_rows.specs.Told.{told_if}

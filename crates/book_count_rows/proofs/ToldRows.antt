@@ -1,7 +1,7 @@
 -- When an office has a count.
 use Rattle.std.proofs.Common.{◌≡◌, ℕ, Bool, false, ◌&&◌, eqb, Option, Some, None, sym, ap, ap₂, ◌∙◌}
 use Rattle.std.specs.List.{list_any}
-use Rattle.base_sorted.specs.Tables.{AreInOrder}
+use Rattle.base_tables.specs.Tables.{AreInOrder}
 use Rattle.model_catalogue.specs.declared.rows.Quota.{Quota}
 use Rattle.model_catalogue.specs.CatalogueLists.{CatalogueLists, quota_at}
 use Rattle.model_rows.specs.declared.rows.Usage.{Usage}

@@ -3,10 +3,10 @@ use Rattle.std.proofs.Common.{◌≡◌, ℕ, ◌+◌, ◌-◌, ◌≤◌, Bool,
 use Rattle.std.specs.List.{AllByRecursion}
 use Rattle.std.proofs.lemmas.Bool.{false≢true}
 use Rattle.std.specs.Prelude.{flat_map, if◌then◌else◌, option_map}
-use Rattle.base_sorted.specs.Rising.{rising}
-use Rattle.base_sorted.specs.Tables.{has, InOrderFrom, AreInOrder, AreKept}
-use Rattle.base_sorted.proofs.Edits.{row_at-with_row}
-use Rattle.base_sorted.proofs.RisingLemmas.{has-rising, rising_in_order}
+use Rattle.base_tables.specs.Rising.{rising}
+use Rattle.base_tables.specs.Tables.{has, InOrderFrom, AreInOrder, AreKept}
+use Rattle.base_tables.proofs.Edits.{row_at-with_row}
+use Rattle.base_tables.proofs.RisingLemmas.{has-rising, rising_in_order}
 use Rattle.model_catalogue.specs.declared.rows.Quota.{Quota}
 use Rattle.model_catalogue.specs.CatalogueLists.{CatalogueLists, quota_at}
 use Rattle.model_rows.specs.declared.changes.Change.{Change}

@@ -1,7 +1,7 @@
 -- Which counts of an office are told where it comes after another one.
 use Rattle.std.specs.Prelude.{◌≡◌, Bool, not, ℕ, List, [], ◌∷◌, ◌++◌, flat_map, if◌then◌else◌, is_none, Option, Some, None, OnOk, Result, Vec}
 use Rattle.std.specs.List.{list_any}
-use Rattle.base_sorted.specs.Tables.{AreInOrder}
+use Rattle.base_tables.specs.Tables.{AreInOrder}
 use Rattle.model_catalogue.specs.declared.rows.Quota.{Quota}
 use Rattle.model_rows.specs.declared.rows.Voucher.{Voucher}
 use Rattle.model_rows.specs.declared.count_rows.QuotaCount.{QuotaCount}

@@ -1,7 +1,7 @@
 -- Which counts are told by what changes shift.
 use Rattle.std.specs.Prelude.{ℕ, ◌+◌, ◌-◌, ◌==◌, ◌&&◌, not, Bool, false, List, [], ◌∷◌, if◌then◌else◌, is_some, Option, Some, None}
 use Rattle.std.specs.Coded.{×_prop, Unit-prop, le_prop}
-use Rattle.base_sorted.specs.Tables.{InOrderFrom}
+use Rattle.base_tables.specs.Tables.{InOrderFrom}
 use Rattle.model_catalogue.specs.declared.rows.Quota.{Quota}
 use Rattle.model_catalogue.specs.CatalogueLists.{quota_at}
 use Rattle.model_rows.specs.declared.changes.Change.{Change}

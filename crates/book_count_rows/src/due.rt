@@ -1,12 +1,12 @@
 //! The quotas of which less or more may be used since a book's moment, because something came due.
 
 ghost use Rattle.std.specs.Prelude.{◌≡◌, ◌≤◌, IfOk};
-ghost use Rattle.base_sorted.specs.Rising.{rising};
+ghost use Rattle.base_tables.specs.Rising.{rising};
 ghost use Rattle.model_catalogue.specs.Kept.{quotas_of};
 ghost use Rattle.book_count_rows.specs.Due.{ids_naming, quotas_sold, hit_by, quotas_hit, due_quotas};
 ghost use Rattle.book_count_rows.specs.Told.{Adds, AddsEach, told_if};
 
-use base_sorted::Ids;
+use base_tables::Ids;
 use base_values::Moment;
 use book_usage::{Book, Dues};
 use model_catalogue::Product;

@@ -3,8 +3,8 @@
 ghost use Rattle.std.specs.Prelude.{◌≡◌, ◌≤◌, ◌++◌, IfOk, true, map, flat_map, option_map, Some};
 ghost use Rattle.std.specs.Bool.{Decides};
 ghost use Rattle.std.specs.Option.{option_copied};
-ghost use Rattle.base_sorted.specs.Rising.{rising};
-ghost use Rattle.base_sorted.specs.Tables.{AreInOrder};
+ghost use Rattle.base_tables.specs.Rising.{rising};
+ghost use Rattle.base_tables.specs.Tables.{AreInOrder};
 ghost use Rattle.model_catalogue.specs.CatalogueLists.{quota_at};
 ghost use Rattle.model_rows.specs.Change.{after_all};
 ghost use Rattle.model_rows.specs.Usage.{usage_of};
@@ -15,7 +15,7 @@ ghost use Rattle.book_count_rows.specs.Walked.{quotas_by, quota_with, quota_afte
 
 use crate::recounts::recount;
 use crate::told::{add_unless, has_voucher, moved, moved_cents, same_as, usage_shifted};
-use base_sorted::{Ids, place_of};
+use base_tables::{Ids, place_of};
 use base_values::Moment;
 use book_tally::{QuotaShift, Shifts, VoucherShift};
 use book_usage::{Book, usage_of};

@@ -6,7 +6,7 @@ ghost use Rattle.model_rows.specs.Usage.{usage_of};
 ghost use Rattle.book_usage.specs.Dues.{with_due_steps};
 
 use crate::counters::Counters;
-use base_sorted::Sparse;
+use base_tables::Sparse;
 use base_values::{List, Moment, Steps, Text};
 use book_usage::{Book, Catalogue, LookUps, PositionTest};
 use model_catalogue::{Product, Quota};

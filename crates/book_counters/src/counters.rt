@@ -12,7 +12,7 @@ ghost use Rattle.book_usage.specs.Dues.{with_due_steps, counts_of_changes};
 ghost use Rattle.book_usage.specs.Limits.{most_listed, most_spent};
 ghost use Rattle.book_settle.specs.Spared.{spares_used};
 
-use base_sorted::place_of;
+use base_tables::place_of;
 use base_values::{Moment, Steps};
 use book_deltas::holds::held_by;
 use book_deltas::spends::spent_in;

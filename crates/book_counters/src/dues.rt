@@ -1,7 +1,7 @@
 //! What came due of the counters' book.
 
 use crate::counters::Counters;
-use base_sorted::ids::sorted;
+use base_tables::ids::sorted;
 use base_values::Moment;
 use book_usage::Dues;
 use model_rows::{Changes, CountRows};

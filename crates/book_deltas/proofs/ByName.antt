@@ -3,8 +3,8 @@ use Rattle.std.proofs.Common.{◌≡◌, ℕ, ◌+◌, Bool, true, false, eqb, L
 use Rattle.std.specs.Prelude.{if◌then◌else◌}
 use Rattle.std.proofs.lemmas.Bool.Decides.{nat_tests}
 use Rattle.std.proofs.lemmas.List.Sums.{sum_by-cons}
-use Rattle.base_sorted.specs.Tables.{row_at, InOrderFrom, AreInOrder}
-use Rattle.base_sorted.proofs.Edits.{row_at_above}
+use Rattle.base_tables.specs.Tables.{row_at, InOrderFrom, AreInOrder}
+use Rattle.base_tables.proofs.Edits.{row_at_above}
 use Rattle.model_rows.specs.Conditions.{names}
 use Rattle.model_rows.proofs.Time.{sum_by_split, eqb_flip}
 use Rattle.book_deltas.specs.Names.{passes_if, names_one}

@@ -1,8 +1,8 @@
 -- Values that are kept for the rows of a table.
 use Rattle.std.proofs.Common.{◌≡◌, ℕ, zero, suc, List, [], ◌∷◌, set, map, refl, sym, ap, ◌∙◌}
 use Rattle.std.specs.List.{insert, remove}
-use Rattle.base_sorted.specs.Tables.{with_row, without_row, AreInOrder, IsPlace, IsGap}
-use Rattle.base_sorted.proofs.Places.{set_is_with_row, insert_is_with_row, remove_is_without_row, without_gap}
+use Rattle.base_tables.specs.Tables.{with_row, without_row, AreInOrder, IsPlace, IsGap}
+use Rattle.base_tables.proofs.Places.{set_is_with_row, insert_is_with_row, remove_is_without_row, without_gap}
 
 module _ {T U : Type 0} (f : T → U) where
   map-set : (rows : List T) (i : ℕ) (row : T) → map f (set rows i row) ≡ set (map f rows) i (f row)

@@ -1,8 +1,8 @@
 -- Usages that are kept through changes.
 use Rattle.std.proofs.Common.{◌≡◌, ℕ, ◌≤◌, Bool, true, false, List, [], ◌∷◌, get_or, map, Some, refl, sym, ap, ◌∙◌, arith}
 use Rattle.std.specs.Prelude.{if◌then◌else◌}
-use Rattle.base_sorted.specs.Tables.{row_at, AreInOrder, IsPlace}
-use Rattle.base_sorted.proofs.Places.{row_at_place}
+use Rattle.base_tables.specs.Tables.{row_at, AreInOrder, IsPlace}
+use Rattle.base_tables.proofs.Places.{row_at_place}
 use Rattle.book_indexes.proofs.EntryLemmas.{map_at}
 use Rattle.model_catalogue.specs.declared.rows.Quota.{Quota}
 use Rattle.model_rows.specs.declared.rows.Usage.{Usage}

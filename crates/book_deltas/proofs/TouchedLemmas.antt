@@ -3,9 +3,9 @@ use Rattle.std.proofs.Common.{◌≡◌, ◌≢◌, ℕ, zero, suc, ◌+◌, ◌
 use Rattle.std.specs.Prelude.{◌||◌, if◌then◌else◌, filter}
 use Rattle.std.specs.List.{AllByRecursion}
 use Rattle.std.proofs.lemmas.Bool.Decides.{nat_tests, eqb_tells}
-use Rattle.base_sorted.specs.Tables.{has, row_at, InOrderFrom, AreInOrder, IsPlace, IsGap}
-use Rattle.base_sorted.proofs.Edits.{row_at_above}
-use Rattle.base_sorted.proofs.Places.{at_least, row_at_gap, order_weaker}
+use Rattle.base_tables.specs.Tables.{has, row_at, InOrderFrom, AreInOrder, IsPlace, IsGap}
+use Rattle.base_tables.proofs.Edits.{row_at_above}
+use Rattle.base_tables.proofs.Places.{at_least, row_at_gap, order_weaker}
 use Rattle.model_rows.proofs.Found.{each_found}
 use Rattle.model_catalogue.specs.declared.rows.Quota.{Quota}
 use Rattle.model_rows.specs.declared.rows.Usage.{Usage}

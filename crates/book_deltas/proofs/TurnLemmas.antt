@@ -5,9 +5,9 @@ use Rattle.std.specs.List.{AllByRecursion}
 use Rattle.std.proofs.lemmas.Bool.Decides.{nat_tests}
 use Rattle.std.proofs.lemmas.List.Sums.{sum_by-cons}
 use Rattle.std.proofs.lemmas.Grind.{common_steps}
-use Rattle.base_sorted.specs.Tables.{AreInOrder, IsPlace, IsGap}
-use Rattle.base_sorted.proofs.Places.{row_at_gap}
-use Rattle.base_sorted.proofs.OneId.{map_none, map_one}
+use Rattle.base_tables.specs.Tables.{AreInOrder, IsPlace, IsGap}
+use Rattle.base_tables.proofs.Places.{row_at_gap}
+use Rattle.base_tables.proofs.OneId.{map_none, map_one}
 use Rattle.model_catalogue.specs.declared.rows.Quota.{Quota}
 use Rattle.model_rows.specs.declared.rows.Voucher.{Voucher}
 use Rattle.model_rows.specs.declared.rows.Usage.{Usage}

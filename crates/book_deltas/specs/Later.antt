@@ -1,6 +1,6 @@
 -- What a walk over what came due counts of each row.
 use Rattle.std.specs.Prelude.{◌≡◌, ◌≤◌, ℕ, ◌+◌, ◌-◌, Bool, ◌&&◌, List, Option, Some, None, count_by, sum_by, if◌then◌else◌}
-use Rattle.base_sorted.specs.Tables.{sum_at}
+use Rattle.base_tables.specs.Tables.{sum_at}
 use Rattle.model_catalogue.specs.declared.rows.Quota.{Quota}
 use Rattle.model_rows.specs.declared.rows.Voucher.{Voucher}
 use Rattle.model_rows.specs.CameDue.{is_due_voucher}

@@ -1,6 +1,6 @@
 -- Rows that name others.
 use Rattle.std.specs.Prelude.{ℕ, Bool, false, List, Option, Some, None}
-use Rattle.base_sorted.specs.Tables.{row_at}
+use Rattle.base_tables.specs.Tables.{row_at}
 
 -- there is one, and it passes the test
 abbrev pub passes_if : {V : Type 0} → (V → Bool) → Option V → Bool

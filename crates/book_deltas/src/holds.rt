@@ -1,7 +1,7 @@
 //! How many live cart positions name each voucher, kept beside the vouchers.
 
 ghost use Rattle.std.specs.Prelude.{◌≡◌, ◌≤◌, ◌&&◌, count_by, length, vec_capacity, Some, true, false};
-ghost use Rattle.base_sorted.specs.Tables.{AreInOrder};
+ghost use Rattle.base_tables.specs.Tables.{AreInOrder};
 ghost use Rattle.model_rows.specs.CameDue.{is_due_cart};
 ghost use Rattle.model_rows.specs.Change.{change_applied};
 ghost use Rattle.model_rows.specs.Headroom.{held};
@@ -15,7 +15,7 @@ ghost use Rattle.book_deltas.specs.Held.{AreHeld, AreHeldNow, named_by};
 ghost use Rattle.book_deltas.specs.Turns.{turn};
 
 use crate::turns::{count_after_turn, vouchers};
-use base_sorted::place_of;
+use base_tables::place_of;
 use base_values::Moment;
 use book_store::Store;
 use book_store::counts::count_one;

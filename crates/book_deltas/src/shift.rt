@@ -2,13 +2,13 @@
 
 ghost use Rattle.std.specs.Prelude.{◌≡◌, ◌≤◌, ◌<◌, ◌+◌, length, map, vec_capacity};
 ghost use Rattle.std.specs.List.{insert};
-ghost use Rattle.base_sorted.specs.Tables.{with_row, without_row, AreInOrder};
+ghost use Rattle.base_tables.specs.Tables.{with_row, without_row, AreInOrder};
 ghost use Rattle.model_catalogue.specs.declared.rows.Quota.{Quota};
 ghost use Rattle.model_rows.specs.declared.rows.Usage.{Usage};
 ghost use Rattle.book_deltas.specs.Beside.{room_left};
 ghost use Rattle.book_deltas.specs.Shifts.{count_moved};
 
-use base_sorted::{Row, place_of};
+use base_tables::{Row, place_of};
 use model_catalogue::Quota;
 use model_rows::Usage;
 

@@ -6,7 +6,7 @@ ghost use Rattle.book_usage.specs.Limits.{most_spent};
 ghost use Rattle.book_deltas.specs.Spends.{ArePriced, AreSpent};
 
 use crate::turns::vouchers;
-use base_sorted::place_of;
+use base_tables::place_of;
 use book_store::Store;
 
 /// What is spent of the voucher's budget, in cents: as it is kept, or else counted afresh.

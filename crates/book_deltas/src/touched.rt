@@ -1,7 +1,7 @@
 //! The usages of those quotas alone that a change touches.
 
 ghost use Rattle.std.specs.Prelude.{◌≡◌, ◌==◌, length, vec_capacity};
-ghost use Rattle.base_sorted.specs.Tables.{AreInOrder, has};
+ghost use Rattle.base_tables.specs.Tables.{AreInOrder, has};
 ghost use Rattle.model_catalogue.specs.Member.{is_in};
 ghost use Rattle.model_rows.specs.Conditions.{hits, hits_by, hits_by_product};
 ghost use Rattle.book_deltas.specs.Beside.{Stays};
@@ -9,7 +9,7 @@ ghost use Rattle.book_deltas.specs.Shifts.{AreShifted, only};
 
 use crate::shift::Shift;
 use base_index::Found;
-use base_sorted::place_of;
+use base_tables::place_of;
 use book_usage::Catalogue;
 use model_catalogue::{Product, Quota};
 use model_rows::{Usage, Voucher};

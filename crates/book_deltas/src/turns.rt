@@ -6,7 +6,7 @@ ghost use Rattle.book_usage.specs.Limits.{most_listed};
 ghost use Rattle.book_deltas.specs.Turns.{count_after_turn};
 ghost use Rattle.book_deltas.specs.Usages.{AreRedeemed};
 
-use base_sorted::place_of;
+use base_tables::place_of;
 use book_store::Store;
 use model_rows::Voucher;
 

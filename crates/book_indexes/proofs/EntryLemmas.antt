@@ -4,9 +4,9 @@ use Rattle.std.specs.Prelude.{if◌then◌else◌, filter}
 use Rattle.std.specs.List.{AllByRecursion}
 use Rattle.std.proofs.lemmas.Bool.Decides.{nat_tests}
 use Rattle.std.proofs.lemmas.List.Sums.{sum_by-cons}
-use Rattle.base_sorted.specs.Tables.{row_at, with_row, without_row, InOrderFrom, AreInOrder, IsPlace, sum_at}
-use Rattle.base_sorted.proofs.Edits.{row_at-without_row, row_at_above, sum_by-with_row, sum_by-without_row}
-use Rattle.base_sorted.proofs.Places.{without_row_in_order}
+use Rattle.base_tables.specs.Tables.{row_at, with_row, without_row, InOrderFrom, AreInOrder, IsPlace, sum_at}
+use Rattle.base_tables.proofs.Edits.{row_at-without_row, row_at_above, sum_by-with_row, sum_by-without_row}
+use Rattle.base_tables.proofs.Places.{without_row_in_order}
 use Rattle.base_index.specs.Entries.{entry, key_of, id_of, is_between, ids_of, ids_between}
 use Rattle.base_index.proofs.EntryLemmas.{key_is, id_is}
 use Rattle.model_rows.proofs.Found.{each_found}

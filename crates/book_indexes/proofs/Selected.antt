@@ -3,10 +3,10 @@ use Rattle.std.proofs.Common.{◌≡◌, ℕ, ◌+◌, Bool, true, false, cond, 
 use Rattle.std.specs.Prelude.{if◌then◌else◌, filter, not}
 use Rattle.std.proofs.lemmas.Bool.Decides.{nat_tests}
 use Rattle.std.proofs.lemmas.List.Sums.{sum_by-cons}
-use Rattle.base_sorted.specs.Tables.{has, row_at, InOrderFrom, AreInOrder}
-use Rattle.base_sorted.specs.Rising.{rising}
-use Rattle.base_sorted.proofs.Places.{order_weaker}
-use Rattle.base_sorted.proofs.RisingLemmas.{has-rising, rising_in_order}
+use Rattle.base_tables.specs.Tables.{has, row_at, InOrderFrom, AreInOrder}
+use Rattle.base_tables.specs.Rising.{rising}
+use Rattle.base_tables.proofs.Places.{order_weaker}
+use Rattle.base_tables.proofs.RisingLemmas.{has-rising, rising_in_order}
 use Rattle.base_index.proofs.Sorted.{same_ids}
 use Rattle.model_rows.proofs.EachRow.{key-row_at}
 use Rattle.book_indexes.specs.Indexes.{Finds}

@@ -1,6 +1,6 @@
 -- Indexes of rows by their keys, and what is found by them: what is added up over the rows is what adds up over the entries.
 use Rattle.std.specs.Prelude.{◌≡◌, ℕ, Bool, List, Option, Some, None, map, filter, sum_by, if◌then◌else◌}
-use Rattle.base_sorted.specs.Tables.{with_row, without_row, row_at}
+use Rattle.base_tables.specs.Tables.{with_row, without_row, row_at}
 use Rattle.base_index.specs.Entries.{entry, key_of, id_of}
 use Rattle.book_indexes.specs.declared.keys.Keys.{Keys}
 

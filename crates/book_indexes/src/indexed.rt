@@ -2,8 +2,8 @@
 
 ghost use Rattle.std.specs.Prelude.{◌≡◌, ◌≤◌, ◌+◌, [], length, OnOk};
 ghost use Rattle.std.specs.Option.{option_copied};
-ghost use Rattle.base_sorted.specs.Rising.{rising};
-ghost use Rattle.base_sorted.specs.Tables.{row_at, with_row, without_row, AreInOrder, AreKept, most_listed};
+ghost use Rattle.base_tables.specs.Rising.{rising};
+ghost use Rattle.base_tables.specs.Tables.{row_at, with_row, without_row, AreInOrder, AreKept, most_listed};
 ghost use Rattle.book_indexes.specs.Keys.{keys_if, has_end, has_name, has_text, has_group};
 ghost use Rattle.book_indexes.specs.Indexes.{AreIndexed, Finds, ids_passing, with_entry, without_entry};
 
@@ -11,7 +11,7 @@ use crate::keyed::Keyed;
 use crate::keys::Keys;
 use crate::ordered::OrderedRows;
 use base_index::{Found, Index};
-use base_sorted::Rows;
+use base_tables::Rows;
 use std::alloc::{AllocError, Global};
 use std::marker::{Model, PhantomData};
 
@@ -29,7 +29,7 @@ pub struct Indexed<T: Keyed + Drop, R: OrderedRows<T> = Rows<T>> {
 
 impl<T: Keyed + Drop, R: OrderedRows<T>> Model for Indexed<T, R> {
     ghost use Rattle.std.specs.Prelude.{min};
-    ghost use Rattle.base_sorted.specs.Tables.{Table};
+    ghost use Rattle.base_tables.specs.Tables.{Table};
     ghost use Rattle.book_indexes.specs.Indexes.{AreIndexed};
 
     ghost Value = { Table T };

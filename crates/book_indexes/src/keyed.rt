@@ -6,7 +6,7 @@ ghost use Rattle.book_indexes.specs.Keys.{voucher_keys, cart_keys, order_keys, p
 
 use crate::digests::{digest, pair};
 use crate::keys::Keys;
-use base_sorted::Row;
+use base_tables::Row;
 use model_rows::{CartPos, Checkin, Order, OrderPos, Voucher, Waiting};
 
 /// A row that is found by keys.

@@ -2,9 +2,9 @@
 
 ghost use Rattle.std.specs.Prelude.{◌≡◌, ◌≤◌, ◌+◌, [], OnOk};
 ghost use Rattle.std.specs.Option.{option_copied};
-ghost use Rattle.base_sorted.specs.Tables.{Table, row_at, with_row, without_row, AreKept, most_listed};
+ghost use Rattle.base_tables.specs.Tables.{Table, row_at, with_row, without_row, AreKept, most_listed};
 
-use base_sorted::{Row, Rows, Sparse};
+use base_tables::{Row, Rows, Sparse};
 use std::alloc::{AllocError, Global};
 
 /// Keeps rows in order of id.

@@ -2,7 +2,7 @@
 
 ghost use Rattle.std.specs.Prelude.{◌≡◌, ◌<◌, ◌+◌, ℕ, length, slice_index_or};
 ghost use Rattle.std.specs.Option.{option_copied};
-ghost use Rattle.base_sorted.specs.Tables.{row_at};
+ghost use Rattle.base_tables.specs.Tables.{row_at};
 
 use crate::indexed::Indexed;
 use crate::keyed::Keyed;

@@ -8,8 +8,8 @@ use Rattle.std.proofs.lemmas.List.{get_or-set_same, get_or-set_other, get_or-rep
 use Rattle.std.proofs.lemmas.List.Sums.{count_by-le-length}
 use Rattle.std.proofs.lemmas.Bool.{cases_lt}
 use Rattle.std.proofs.lemmas.Bool.Decides.{eqb_tells, nat_tests}
-use Rattle.base_sorted.specs.Tables.{row_at, with_row}
-use Rattle.base_sorted.proofs.Edits.{row_at-with_row}
+use Rattle.base_tables.specs.Tables.{row_at, with_row}
+use Rattle.base_tables.proofs.Edits.{row_at-with_row}
 use Rattle.model_rows.specs.declared.changes.Change.{Change}
 use Rattle.book_log.specs.declared.touched.Touch.{Touch}
 use Rattle.book_log.specs.Places.{table_of, id_of, is_of, touches, last_place, kept_place, place_in, IsIndex}

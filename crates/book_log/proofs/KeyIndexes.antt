@@ -6,7 +6,7 @@ use Rattle.std.proofs.lemmas.Option.{none-some}
 use Rattle.std.proofs.lemmas.List.{get_or_append_left, get_or-take, take-append-le, length-take-le, take_all, take_more, get_or_default}
 use Rattle.std.proofs.lemmas.Bool.{cases_lt}
 use Rattle.std.proofs.lemmas.Bool.Decides.{eqb_tells, nat_tests}
-use Rattle.base_sorted.specs.Tables.{with_row}
+use Rattle.base_tables.specs.Tables.{with_row}
 use Rattle.book_log.specs.declared.touched.Touch.{Touch}
 use Rattle.book_log.specs.Places.{last_place, place_in}
 use Rattle.book_log.specs.Keys.{IsKeyIndex}

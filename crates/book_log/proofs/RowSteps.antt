@@ -1,6 +1,6 @@
 -- Look-ups after changes: what the last change of the row puts, or what stood before.
 use Rattle.std.proofs.Common.{◌≡◌, ℕ, List, Option, Some, None, get_or, if◌then◌else◌, refl}
-use Rattle.base_sorted.proofs.Edits.{row_at-with_row, row_at-without_row}
+use Rattle.base_tables.proofs.Edits.{row_at-with_row, row_at-without_row}
 use Rattle.model_catalogue.specs.declared.rows.Quota.{Quota}
 use Rattle.model_catalogue.specs.CatalogueLists.{quota_at}
 use Rattle.model_rows.specs.declared.changes.Change.{Change}

@@ -1,7 +1,7 @@
 -- The rows that changes touch, and the last place in a log that touches a row.
 use Rattle.std.specs.Prelude.{◌≡◌, ℕ, suc, ◌<◌, Bool, ◌&&◌, ◌==◌, List, [], ◌∷◌, length, take, Option, Some, None, count_by, if◌then◌else◌, slice_index_or}
 use Rattle.std.specs.List.{list_any}
-use Rattle.base_sorted.specs.Tables.{row_at, with_row}
+use Rattle.base_tables.specs.Tables.{row_at, with_row}
 use Rattle.model_rows.specs.declared.changes.Change.{Change}
 use Rattle.model_rows.specs.declared.changes.Change.TheVariants.{PutItem, PutVariation, PutQuota, PutVoucher, PutCart, PutOrder, PutPosition, PutWaiting, DropVoucher, DropCart, DropWaiting, PutCheckinList, PutCheckin}
 use Rattle.book_log.specs.declared.change_log.Table.{Table}

@@ -4,7 +4,7 @@ ghost use Rattle.std.specs.Prelude.{◌≡◌, ◌++◌, [], ◌∷◌, OnOk, On
 ghost use Rattle.book_log.specs.declared.touched.Touch.{Touch};
 ghost use Rattle.book_log.specs.Places.{place_in, with_kept_place};
 
-use base_sorted::{Row, place_of};
+use base_tables::{Row, place_of};
 use std::alloc::{AllocError, Global};
 use std::marker::Model;
 
@@ -31,7 +31,7 @@ pub struct Touched {
 
 impl Model for Touched {
     ghost use Rattle.std.specs.Prelude.{List};
-    ghost use Rattle.base_sorted.specs.Tables.{AreInOrder};
+    ghost use Rattle.base_tables.specs.Tables.{AreInOrder};
     ghost use Rattle.book_log.specs.declared.touched.Touch.{Touch};
 
     ghost Value = { List Touch };

@@ -7,7 +7,7 @@ ghost use Rattle.book_usage.specs.Dues.{counts_of_changes};
 ghost use Rattle.book_recount.specs.Copied.{counted_rows, puts_of};
 
 use crate::recount::Recount;
-use base_sorted::{Row, Sparse};
+use base_tables::{Row, Sparse};
 use base_values::Moment;
 use book_count_rows::counts_between;
 use book_usage::Book;

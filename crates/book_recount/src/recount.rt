@@ -10,7 +10,7 @@ ghost use Rattle.book_usage.specs.Counts.{paid_in, pending_in, exited_in, blocke
 ghost use Rattle.book_usage.specs.Limits.{most_listed, last_use};
 ghost use Rattle.book_usage.specs.Naming.{position_names, cart_names, entry_names};
 
-use base_sorted::{Rows, Sparse};
+use base_tables::{Rows, Sparse};
 use base_values::{List, Moment, Steps, Text};
 use book_usage::rules::{
     cart_counts, is_exited_in, is_paid_in, is_pending_in, left_of, spends, uses,

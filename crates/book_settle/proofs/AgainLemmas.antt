@@ -1,6 +1,6 @@
 -- How many rows come with changes.
 use Rattle.std.proofs.Common.{◌+◌, ◌≤◌, length, arith}
-use Rattle.base_sorted.proofs.Edits.{length-with_row, length-without_row}
+use Rattle.base_tables.proofs.Edits.{length-with_row, length-without_row}
 use Rattle.model_rows.specs.declared.changes.Change.{Change}
 use Rattle.model_rows.specs.declared.changes.Change.TheVariants.{PutItem, PutVariation, PutQuota, PutVoucher, PutCart, PutOrder, PutPosition, PutWaiting, DropVoucher, DropCart, DropWaiting, PutCheckinList, PutCheckin}
 use Rattle.model_rows.specs.Change.{after_change}

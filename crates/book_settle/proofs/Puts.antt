@@ -4,10 +4,10 @@ use Rattle.std.specs.Prelude.{if◌then◌else◌}
 use Rattle.std.specs.List.{AllByRecursion}
 use Rattle.std.proofs.lemmas.Bool.Decides.{nat_tests, eqb_tells}
 use Rattle.std.proofs.lemmas.List.{take_more}
-use Rattle.base_sorted.specs.Tables.{row_at, InOrderFrom, AreInOrder, IsPlace, IsGap}
-use Rattle.base_sorted.proofs.Places.{row_at_gap}
-use Rattle.base_sorted.proofs.Edits.{row_at_above}
-use Rattle.base_sorted.proofs.OneId.{map_none, map_one}
+use Rattle.base_tables.specs.Tables.{row_at, InOrderFrom, AreInOrder, IsPlace, IsGap}
+use Rattle.base_tables.proofs.Places.{row_at_gap}
+use Rattle.base_tables.proofs.Edits.{row_at_above}
+use Rattle.base_tables.proofs.OneId.{map_none, map_one}
 use Rattle.book_indexes.proofs.EntryLemmas.{map_at}
 use Rattle.book_settle.specs.Settled.{put_at, put_each}
 

@@ -2,7 +2,7 @@
 use Rattle.std.proofs.Common.{◌≡◌, ℕ, ◌==◌, true, false, cond, List, [], ◌∷◌, Option, Some, None, refl, sym, ap, subst, ◌∙◌}
 use Rattle.std.specs.List.{list_all}
 use Rattle.std.proofs.lemmas.Bool.{and_parts, eqb-true}
-use Rattle.base_sorted.proofs.Edits.{row_at-with_row, row_at-without_row}
+use Rattle.base_tables.proofs.Edits.{row_at-with_row, row_at-without_row}
 use Rattle.model_rows.specs.declared.changes.Change.{Change}
 use Rattle.model_rows.specs.declared.changes.Change.TheVariants.{PutItem, PutVariation, PutQuota, PutVoucher, PutCart, PutOrder, PutPosition, PutWaiting, DropVoucher, DropCart, DropWaiting, PutCheckinList, PutCheckin}
 use Rattle.model_rows.specs.declared.rows.Voucher.{Voucher}

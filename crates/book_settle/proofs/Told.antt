@@ -2,9 +2,9 @@
 use Rattle.std.proofs.Common.{◌≡◌, ℕ, ◌+◌, ◌==◌, ◌&&◌, eqb, Bool, true, false, cond, not, List, [], ◌∷◌, map, filter, Option, Some, None, refl, sym, ap, subst, ◌∙◌, arith}
 use Rattle.std.proofs.lemmas.Bool.{and_parts, eqb-true}
 use Rattle.std.proofs.lemmas.Bool.Decides.{nat_tests}
-use Rattle.base_sorted.specs.Tables.{row_at, InOrderFrom, AreInOrder}
-use Rattle.base_sorted.proofs.Edits.{row_at_above}
-use Rattle.base_sorted.proofs.Places.{filter_in_order}
+use Rattle.base_tables.specs.Tables.{row_at, InOrderFrom, AreInOrder}
+use Rattle.base_tables.proofs.Edits.{row_at_above}
+use Rattle.base_tables.proofs.Places.{filter_in_order}
 use Rattle.model_catalogue.specs.declared.rows.Quota.{Quota}
 use Rattle.model_catalogue.specs.CatalogueLists.{quota_at}
 use Rattle.model_rows.specs.declared.rows.Usage.{Usage}

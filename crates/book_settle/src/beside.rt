@@ -1,11 +1,11 @@
 //! Values that are kept beside rows, by their ids.
 
 ghost use Rattle.std.specs.Prelude.{◌≡◌, ◌≤◌, ◌<◌, ◌+◌, ℕ, None, length, vec_capacity};
-ghost use Rattle.base_sorted.specs.Tables.{AreInOrder, row_at, with_row};
+ghost use Rattle.base_tables.specs.Tables.{AreInOrder, row_at, with_row};
 ghost use Rattle.book_deltas.specs.Beside.{AreBeside, StepsBeside, room_left};
 ghost use Rattle.book_settle.specs.Settled.{put_at};
 
-use base_sorted::{Row, place_of};
+use base_tables::{Row, place_of};
 use book_deltas::shift::keep;
 
 /// Puts a value beside the row of an id, if that stands.

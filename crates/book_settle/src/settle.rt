@@ -4,7 +4,7 @@
 ghost use Rattle.std.specs.Prelude.{◌≡◌, ◌≤◌, ◌+◌, ℕ, true, length, map};
 ghost use Rattle.model_rows.specs.declared.rows.Usage.{Usage};
 ghost use Rattle.std.specs.List.{list_all};
-ghost use Rattle.base_sorted.specs.Tables.{AreInOrder};
+ghost use Rattle.base_tables.specs.Tables.{AreInOrder};
 ghost use Rattle.base_values.specs.Money.{last_cents};
 ghost use Rattle.model_rows.specs.Change.{after_change, after_all, changes_applied, change_applied};
 ghost use Rattle.model_rows.specs.Weight.{change_weight, weight};

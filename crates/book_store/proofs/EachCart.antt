@@ -2,10 +2,10 @@
 use Rattle.std.proofs.Common.{◌≡◌, ℕ, ◌+◌, ◌<◌, Bool, true, false, List, [], ◌∷◌, ◌++◌, map, length, get_or, drop, append_assoc, ◌≤◌, refl, sym, ap, ◌∙◌, cond, arith}
 use Rattle.std.specs.Prelude.{filter, ◌||◌}
 use Rattle.std.proofs.lemmas.Bool.Decides.{nat_tests}
-use Rattle.base_sorted.specs.Rising.{rising}
-use Rattle.base_sorted.specs.Tables.{has, AreInOrder}
+use Rattle.base_tables.specs.Rising.{rising}
+use Rattle.base_tables.specs.Tables.{has, AreInOrder}
 use Rattle.base_values.specs.Texts.{same_text}
-use Rattle.base_sorted.proofs.RisingLemmas.{has-rising, rising_in_order}
+use Rattle.base_tables.proofs.RisingLemmas.{has-rising, rising_in_order}
 use Rattle.base_index.proofs.Sorted.{same_ids}
 use Rattle.book_indexes.proofs.Selected.{selected_in_order}
 use Rattle.model_rows.specs.declared.rows.CartPos.{CartPos}

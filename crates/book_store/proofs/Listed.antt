@@ -3,7 +3,7 @@ use Rattle.std.proofs.Common.{◌≡◌, ℕ, suc, zero, ◌+◌, ◌<◌, ◌�
 use Rattle.std.proofs.lemmas.Grind.{common_steps}
 use Rattle.std.specs.Prelude.{if◌then◌else◌, find, filter, is_some, ◌||◌}
 use Rattle.std.specs.List.{AllByRecursion, list_any}
-use Rattle.base_sorted.specs.Tables.{row_at, AreInOrder}
+use Rattle.base_tables.specs.Tables.{row_at, AreInOrder}
 use Rattle.model_rows.proofs.Found.{each_found}
 use Rattle.book_store.specs.Walks.{row_as_list, rows_of, passing}
 

@@ -1,6 +1,6 @@
 -- What a walk over some ids finds.
 use Rattle.std.specs.Prelude.{ℕ, Bool, List, [], ◌∷◌, ◌++◌, Option, Some, None, if◌then◌else◌}
-use Rattle.base_sorted.specs.Tables.{row_at, sum_at}
+use Rattle.base_tables.specs.Tables.{row_at, sum_at}
 
 -- the row, if there is one
 abbrev pub row_as_list : {T : Type 0} → Option T → List T

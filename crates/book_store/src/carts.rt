@@ -8,7 +8,7 @@ ghost use Rattle.book_store.specs.Walks.{row_as_list};
 ghost use Rattle.book_store.specs.OneRow.{ids_in_cart};
 
 use crate::store::Store;
-use base_sorted::ids::sorted;
+use base_tables::ids::sorted;
 use base_values::{Moment, Text};
 use book_indexes::digest;
 use book_usage::LookUps;

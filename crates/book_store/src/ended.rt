@@ -1,7 +1,7 @@
 //! What a count at a later moment may look at.
 
 ghost use Rattle.std.specs.Prelude.{◌≡◌, ◌≤◌, IfOk, IfErr, length};
-ghost use Rattle.base_sorted.specs.Tables.{IsPlace, IsGap};
+ghost use Rattle.base_tables.specs.Tables.{IsPlace, IsGap};
 ghost use Rattle.model_rows.specs.CameDue.{is_due_cart, is_due_voucher};
 ghost use Rattle.model_rows.specs.Kept.{IsKept};
 ghost use Rattle.model_rows.specs.Usage.{cart_counts};
@@ -10,7 +10,7 @@ ghost use Rattle.book_usage.specs.Naming.{cart_names};
 ghost use Rattle.book_store.specs.Found.{FindsCarts, FindsVouchers};
 
 use crate::store::Store;
-use base_sorted::{Rows, Sparse, place_of};
+use base_tables::{Rows, Sparse, place_of};
 use base_values::Moment;
 use book_indexes::Walk;
 use book_usage::rules::cart_counts;

@@ -14,7 +14,7 @@ ghost use Rattle.book_store.specs.Walks.{row_as_list, one_if};
 use crate::counts::count_one;
 use crate::store::Store;
 use base_index::Found;
-use base_sorted::ids::sorted;
+use base_tables::ids::sorted;
 use base_values::{List, Moment};
 use book_indexes::digest;
 use book_usage::{LookUps, PositionTest};

@@ -8,7 +8,7 @@ ghost use Rattle.model_rows.specs.Weight.{change_weight};
 ghost use Rattle.model_rows.specs.Kept.{IsKept};
 ghost use Rattle.book_usage.specs.Limits.{most_listed};
 
-use base_sorted::{Rows, Sparse};
+use base_tables::{Rows, Sparse};
 use base_values::Moment;
 use book_indexes::Indexed;
 use book_usage::{Catalogue, LookUps};

@@ -1,6 +1,6 @@
 -- What changes shift of the counts of quotas and vouchers: how much came of each, and how much went.
 use Rattle.std.specs.Prelude.{◌≡◌, ℕ, ◌+◌, Bool, List, Option, Some, None, is_some}
-use Rattle.base_sorted.specs.Tables.{row_at, AreInOrder}
+use Rattle.base_tables.specs.Tables.{row_at, AreInOrder}
 use Rattle.model_catalogue.specs.declared.rows.Quota.{Quota}
 use Rattle.model_catalogue.specs.CatalogueLists.{quota_at}
 use Rattle.model_rows.specs.declared.rows.Usage.{Usage}

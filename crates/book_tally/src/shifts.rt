@@ -2,7 +2,7 @@
 
 ghost use Rattle.std.specs.Prelude.{◌≡◌, []};
 
-use base_sorted::Row;
+use base_tables::Row;
 use model_rows::{Changes, Usage};
 use std::alloc::Global;
 

@@ -1,7 +1,7 @@
 -- How often orders that stand use a voucher, after a change of one row.
 use Rattle.std.proofs.Common.{◌≡◌, ℕ, ◌+◌, ◌≤◌, Bool, true, false, ◌&&◌, None, Some, refl, ap, ◌∙◌, count_by, arith}
 use Rattle.std.proofs.lemmas.List.Sums.{count_by-le-length}
-use Rattle.base_sorted.specs.Tables.{sum_at, AreInOrder}
+use Rattle.base_tables.specs.Tables.{sum_at, AreInOrder}
 use Rattle.model_rows.specs.declared.rows.Order.{Order}
 use Rattle.model_rows.specs.declared.rows.OrderPos.{OrderPos}
 use Rattle.model_rows.specs.declared.changes.Change.TheVariants.{PutOrder, PutPosition}

@@ -1,6 +1,6 @@
 -- How many rows a book may keep, and what they can count at most.
 use Rattle.std.specs.Prelude.{ℕ}
-pub use Rattle.base_sorted.specs.Tables.{most_listed}
+pub use Rattle.base_tables.specs.Tables.{most_listed}
 
 -- the most order positions, cart positions and waiting entries together
 abbrev pub most_naming : ℕ

@@ -1,6 +1,6 @@
 -- What single rows count, each by itself.
 use Rattle.std.specs.Prelude.{ℕ, ◌-◌, Bool, Option, Some, None, if◌then◌else◌}
-use Rattle.base_sorted.specs.Tables.{sum_at}
+use Rattle.base_tables.specs.Tables.{sum_at}
 use Rattle.model_catalogue.specs.declared.rows.Quota.{Quota}
 use Rattle.model_rows.specs.declared.rows.CartPos.{CartPos}
 use Rattle.model_rows.specs.declared.rows.OrderPos.{OrderPos}

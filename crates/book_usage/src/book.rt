@@ -23,7 +23,7 @@ ghost use Rattle.book_usage.specs.Waiters.{waiter_ids};
 ghost use Rattle.model_rows.specs.Kept.{IsKept};
 ghost use Rattle.model_rows.specs.Consumed.{carts_consumed};
 
-use base_sorted::Sparse;
+use base_tables::Sparse;
 use base_values::{List, Moment, Steps, Text};
 use book_catalogue::Catalogue;
 use model_catalogue::{Product, Quota};

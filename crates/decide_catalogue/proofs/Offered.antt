@@ -2,8 +2,8 @@
 use Rattle.std.proofs.Common.{◌≡◌, ℕ, Bool, List, [], ◌∷◌, Option, Some, None, refl, ap, ap₂}
 use Rattle.std.specs.Prelude.{◌&&◌, ◌||◌, not}
 use Rattle.std.specs.List.{list_all}
-use Rattle.base_sorted.specs.Rising.{rising}
-use Rattle.base_sorted.proofs.RisingLemmas.{has-rising}
+use Rattle.base_tables.specs.Rising.{rising}
+use Rattle.base_tables.proofs.RisingLemmas.{has-rising}
 use Rattle.model_catalogue.specs.declared.rows.Item.{Item}
 use Rattle.model_catalogue.specs.CatalogueLists.{CatalogueLists, item_at}
 use Rattle.model_catalogue.specs.QuotaAdded.{is_offered}

@@ -5,7 +5,7 @@ ghost use Rattle.std.specs.List.{list_all};
 ghost use Rattle.model_catalogue.specs.CatalogueLists.{item_at, variation_at};
 ghost use Rattle.model_catalogue.specs.QuotaAdded.{items_stand, variations_stand, variations_fit, items_fit, is_of_one, item_of, items_of, is_offered};
 
-use base_sorted::Ids;
+use base_tables::Ids;
 use book_catalogue::Catalogue;
 use model_catalogue::Quota;
 use std::alloc::{AllocError, Global};

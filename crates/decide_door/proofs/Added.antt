@@ -3,7 +3,7 @@ use Rattle.std.proofs.Common.{◌≡◌, ℕ, Bool, true, false, List, [], ◌�
 use Rattle.std.specs.Prelude.{◌&&◌, is_some}
 use Rattle.std.specs.List.{list_all, AllByRecursion}
 use Rattle.base_values.proofs.Decided.{gave_it, passed}
-use Rattle.base_sorted.proofs.RisingLemmas.{rising_in_order}
+use Rattle.base_tables.proofs.RisingLemmas.{rising_in_order}
 use Rattle.model_catalogue.specs.declared.rows.Quota.{Quota}
 use Rattle.model_catalogue.specs.CatalogueLists.{CatalogueLists, item_at}
 use Rattle.model_rows.specs.declared.rows.CheckinList.{CheckinList}

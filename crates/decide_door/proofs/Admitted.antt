@@ -3,7 +3,7 @@ use Rattle.std.proofs.Common.{◌≡◌, ℕ, ◌⊎◌, inl, inr, true, false, 
 use Rattle.std.specs.Prelude.{is_some, unwrap_or, IfSome}
 use Rattle.base_values.proofs.Decided.{gave, gave_it, passed}
 use Rattle.base_values.specs.Moments.{IsMoment}
-use Rattle.base_sorted.specs.Tables.{AreInOrder}
+use Rattle.base_tables.specs.Tables.{AreInOrder}
 use Rattle.base_values.specs.Texts.{same_text}
 use Rattle.model_rows.specs.declared.rows.OrderPos.{OrderPos}
 use Rattle.model_rows.specs.declared.rows.CheckinList.{CheckinList}

@@ -4,9 +4,9 @@ use Rattle.std.specs.Prelude.{◌&&◌, ◌||◌, if◌then◌else◌}
 use Rattle.std.proofs.lemmas.Bool.Decides.{nat_tests}
 use Rattle.std.proofs.lemmas.List.{length-map}
 use Rattle.std.proofs.lemmas.List.Sums.{sum_by-cons}
-use Rattle.base_sorted.specs.Tables.{row_at, AreInOrder, IsPlace}
-use Rattle.base_sorted.proofs.Places.{filter_in_order}
-use Rattle.base_sorted.proofs.Mapped.{map_two, map_set, map_absent, mapped_in_order}
+use Rattle.base_tables.specs.Tables.{row_at, AreInOrder, IsPlace}
+use Rattle.base_tables.proofs.Places.{filter_in_order}
+use Rattle.base_tables.proofs.Mapped.{map_two, map_set, map_absent, mapped_in_order}
 use Rattle.model_rows.specs.declared.rows.OrderPos.{OrderPos}
 use Rattle.model_rows.specs.declared.rows.CheckinList.{CheckinList}
 use Rattle.model_rows.specs.declared.rows.Checkin.{Checkin}

@@ -1,6 +1,6 @@
 -- What a scan moves: at most the place of its own ticket, in quotas that release places.
 use Rattle.std.proofs.Common.{◌≡◌, ℕ, ◌+◌, ◌≤◌, inl, inr, Bool, true, false, not, ◌&&◌, List, Option, Some, None, Ok, refl, sym, ap, ◌∙◌, subst, arith}
-use Rattle.base_sorted.specs.Tables.{row_at, sum_at, AreInOrder}
+use Rattle.base_tables.specs.Tables.{row_at, sum_at, AreInOrder}
 use Rattle.model_catalogue.specs.declared.rows.Quota.{Quota}
 use Rattle.model_catalogue.specs.Member.{is_in}
 use Rattle.model_rows.specs.declared.rows.Checkin.{Checkin}

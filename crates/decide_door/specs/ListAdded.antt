@@ -2,7 +2,7 @@
 use Rattle.std.specs.Prelude.{ℕ, Bool, is_some, List, Result, Ok}
 use Rattle.std.specs.List.{list_all}
 use Rattle.base_values.specs.Deciding.{◌>>◌, check}
-use Rattle.base_sorted.specs.Rising.{rising}
+use Rattle.base_tables.specs.Rising.{rising}
 use Rattle.model_catalogue.specs.declared.refusal.CatalogueRefusal.TheVariants.{NoItem, Full}
 use Rattle.model_catalogue.specs.CatalogueLists.{CatalogueLists, item_at}
 use Rattle.model_rows.specs.declared.rows.CheckinList.{CheckinList}

@@ -7,7 +7,7 @@ ghost use Rattle.draft_changes.specs.DraftState.{now};
 ghost use Rattle.model_rows.specs.declared.changes.Change.TheVariants.{PutCheckinList};
 ghost use Rattle.decide_door.specs.ListAdded.{list_row, items_stand, list_added};
 
-use base_sorted::Ids;
+use base_tables::Ids;
 use book_usage::{Book, Catalogue};
 use draft_changes::Draft;
 use model_catalogue::CatalogueRefusal;

@@ -1,13 +1,13 @@
 //! Who came in by a check-in list, and who is inside.
 
 ghost use Rattle.std.specs.Prelude.{◌≡◌, IfOk, map};
-ghost use Rattle.base_sorted.specs.Tables.{AreInOrder};
+ghost use Rattle.base_tables.specs.Tables.{AreInOrder};
 ghost use Rattle.decide_door.specs.Stays.{no_stay, checkin_noted, noted_all, stays_inside, counts_of, no_stays};
 ghost use Rattle.decide_door.specs.Status.{status_of};
 
 use crate::listing::belongs;
 use crate::passages::is_of;
-use base_sorted::{Row, place_of};
+use base_tables::{Row, place_of};
 use book_usage::Book;
 use model_commands::DoorStatus;
 use model_rows::passages::{is_entry, is_entry_if, later};

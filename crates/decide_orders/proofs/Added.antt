@@ -1,7 +1,7 @@
 -- What is known where a cart position was added.
 use Rattle.std.proofs.Common.{◌≡◌, ℕ, true, false, [], ◌∷◌, None, Ok, refl, sym, ap, ◌∙◌, subst}
 use Rattle.base_values.proofs.Decided.{found_none, gave, gave_below, gave_it, gave_unit, passed}
-use Rattle.base_sorted.specs.Tables.{AreInOrder}
+use Rattle.base_tables.specs.Tables.{AreInOrder}
 use Rattle.base_values.specs.Draws.{IsDraw}
 use Rattle.base_values.specs.declared.draw.Draw.{Draw}
 use Rattle.model_rows.specs.declared.rows.CartPos.{CartPos}

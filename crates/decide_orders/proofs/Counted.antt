@@ -4,7 +4,7 @@ use Rattle.std.specs.Prelude.{is_some, nat_lt}
 use Rattle.std.specs.List.{AllByRecursion}
 use Rattle.std.proofs.lemmas.Bool.Decides.{nat_tests}
 use Rattle.base_values.proofs.Decided.{gave, gave_below, gave_it, gave_unit, unrefused}
-use Rattle.base_sorted.specs.Tables.{row_at, with_row}
+use Rattle.base_tables.specs.Tables.{row_at, with_row}
 use Rattle.base_values.specs.declared.draw.Draw.{Draw}
 use Rattle.model_rows.specs.declared.rows.Order.{Order}
 use Rattle.model_rows.specs.declared.rows.OrderPos.{OrderPos}

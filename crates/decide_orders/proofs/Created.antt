@@ -5,10 +5,10 @@ use Rattle.std.specs.List.{AllByRecursion}
 use Rattle.std.proofs.lemmas.Bool.Decides.{nat_tests}
 use Rattle.base_values.proofs.Decided.{found_none, gave, gave_below, gave_it, gave_unit, passed}
 use Rattle.base_values.specs.Codes.{last_order}
-use Rattle.base_sorted.specs.Tables.{AreInOrder}
+use Rattle.base_tables.specs.Tables.{AreInOrder}
 use Rattle.base_values.specs.Draws.{IsDraw}
 use Rattle.base_values.specs.declared.draw.Draw.{Draw}
-use Rattle.base_sorted.proofs.Edits.{row_at-with_row}
+use Rattle.base_tables.proofs.Edits.{row_at-with_row}
 use Rattle.model_catalogue.specs.CatalogueLists.{CatalogueLists}
 use Rattle.model_rows.specs.declared.rows.NextIds.{NextIds}
 use Rattle.model_rows.specs.declared.rows.Order.{Order}

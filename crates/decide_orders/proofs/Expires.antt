@@ -2,8 +2,8 @@
 use Rattle.std.proofs.Common.{◌≡◌, ℕ, ◌≤◌, inl, Bool, true, false, ◌&&◌, cond, eqb, List, [], ◌∷◌, filter, map, Option, Some, None, refl, sym, ap, ◌∙◌, subst, arith}
 use Rattle.std.specs.Prelude.{nat_lt, if◌then◌else◌}
 use Rattle.std.specs.List.{AllByRecursion, list_any}
-use Rattle.base_sorted.specs.Tables.{AreInOrder}
-use Rattle.base_sorted.proofs.Edits.{row_at-with_row}
+use Rattle.base_tables.specs.Tables.{AreInOrder}
+use Rattle.base_tables.proofs.Edits.{row_at-with_row}
 use Rattle.model_catalogue.specs.declared.rows.Quota.{Quota}
 use Rattle.model_catalogue.specs.CatalogueLists.{quota_at}
 use Rattle.model_rows.specs.declared.rows.Order.{Order}

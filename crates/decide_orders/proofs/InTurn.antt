@@ -10,7 +10,7 @@ use Rattle.base_values.specs.Price.{price_within}
 use Rattle.base_values.specs.Texts.{same_text}
 use Rattle.base_values.specs.declared.draw.Draw.{Draw}
 use Rattle.model_catalogue.specs.declared.rows.Product.{Product}
-use Rattle.base_sorted.specs.Tables.{row_at, AreInOrder}
+use Rattle.base_tables.specs.Tables.{row_at, AreInOrder}
 use Rattle.model_rows.specs.declared.rows.OrderPos.{OrderPos}
 use Rattle.model_rows.specs.declared.rows.Voucher.{Voucher}
 use Rattle.model_rows.specs.Budgets.{covers, is_within, is_within_by, are_within, HasBudget, AllWithinBudget, named_discounts, left_after}

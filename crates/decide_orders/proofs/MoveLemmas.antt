@@ -12,7 +12,7 @@ use Rattle.model_rows.specs.Change.{after_change}
 use Rattle.model_rows.specs.Usage.{stands_as, redeemed}
 use Rattle.model_rows.specs.Headroom.{held}
 use Rattle.model_rows.proofs.OrderHeadroom.{redeemed_order}
-use Rattle.base_sorted.specs.Tables.{row_at}
+use Rattle.base_tables.specs.Tables.{row_at}
 use Rattle.model_commands.specs.declared.orders.Move.{Move}
 use Rattle.model_commands.specs.declared.orders.Move.TheVariants.{MarkPaid, MarkPending, MarkExpired, MarkCanceled, Extend}
 use Rattle.decide_orders.specs.declared.moves.Transition.{Transition}

@@ -7,7 +7,7 @@ use Rattle.base_values.specs.Money.{IsMoney}
 use Rattle.base_values.specs.Percent.{whole, left_of}
 use Rattle.base_values.specs.Price.{price, price_within}
 use Rattle.base_values.proofs.PriceWithin.{at_most}
-use Rattle.base_sorted.specs.Tables.{AreInOrder}
+use Rattle.base_tables.specs.Tables.{AreInOrder}
 use Rattle.base_values.specs.Texts.{same_text}
 use Rattle.base_values.specs.declared.price_mode.PriceMode.{PriceMode}
 use Rattle.base_values.specs.declared.price_mode.PriceMode.TheVariants as modes

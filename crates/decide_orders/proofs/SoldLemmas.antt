@@ -2,7 +2,7 @@
 use Rattle.std.proofs.Common.{◌≡◌, ℕ, true, List, Option, Some, None, Ok, sym, ap, ◌∙◌, subst}
 use Rattle.std.specs.Prelude.{option_map}
 use Rattle.std.specs.List.{AllByRecursion}
-use Rattle.base_sorted.specs.Tables.{AreInOrder}
+use Rattle.base_tables.specs.Tables.{AreInOrder}
 use Rattle.base_values.proofs.Decided.{found, gave, gave_below, gave_it, gave_unit, passed}
 use Rattle.base_values.specs.Texts.{same_text}
 use Rattle.model_catalogue.specs.declared.rows.Product.{Product}

@@ -2,7 +2,7 @@
 use Rattle.std.specs.Prelude.{List, ◌++◌, ◌≡◌, ℕ, ◌+◌, ◌≤◌, [], ◌∷◌, Option, Some, None, Bool}
 use Rattle.model_rows.specs.Lists.{State}
 use Rattle.model_commands.specs.declared.carts.Outcome.{Outcome}
-use Rattle.base_sorted.specs.Tables.{AreInOrder, row_at, with_row}
+use Rattle.base_tables.specs.Tables.{AreInOrder, row_at, with_row}
 use Rattle.model_rows.specs.declared.rows.OrderPos.{OrderPos}
 use Rattle.model_rows.specs.Headroom.{AllHaveHeadroom, has_room, held}
 use Rattle.model_invariant.specs.Ids.{AreNumbered}

@@ -1,11 +1,11 @@
 -- A box office stays sound where a voucher is sent, and where all are served; and the changes can be made one after another.
 use Rattle.std.proofs.Common.{◌≡◌, ℕ, ◌+◌, ◌<◌, ◌^◌, min, Bool, true, false, eqb, List, [], ◌∷◌, Option, Some, None, Result, Ok, Err, map, refl, ap, ◌∙◌, subst, arith}
 use Rattle.std.specs.Prelude.{◌||◌, not, is_some, if◌then◌else◌}
-use Rattle.base_sorted.specs.Tables.{row_at, with_row}
+use Rattle.base_tables.specs.Tables.{row_at, with_row}
 use Rattle.base_values.specs.Draws.{IsDraw}
 use Rattle.base_values.specs.Moments.{last_moment, IsMoment}
 use Rattle.base_values.specs.declared.draw.Draw.{Draw}
-use Rattle.base_sorted.proofs.Edits.{row_at-with_row}
+use Rattle.base_tables.proofs.Edits.{row_at-with_row}
 use Rattle.std.proofs.lemmas.Bool.Decides.{nat_tests}
 use Rattle.model_catalogue.specs.declared.rows.Item.{Item}
 use Rattle.model_catalogue.specs.declared.rows.Product.{Product}

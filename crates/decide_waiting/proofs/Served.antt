@@ -7,8 +7,8 @@ use Rattle.base_values.specs.Deciding.{◌>>=◌, ◌>>◌, check, refuse_some}
 use Rattle.std.proofs.lemmas.Bool.Decides.{nat_tests}
 use Rattle.std.proofs.lemmas.List.Sums.{sum_by-cons}
 use Rattle.base_values.specs.declared.draw.Draw.{Draw}
-use Rattle.base_sorted.specs.Tables.{with_row}
-use Rattle.base_sorted.proofs.Edits.{row_at-with_row}
+use Rattle.base_tables.specs.Tables.{with_row}
+use Rattle.base_tables.proofs.Edits.{row_at-with_row}
 use Rattle.model_catalogue.specs.declared.rows.Quota.{Quota}
 use Rattle.model_catalogue.specs.declared.refusal.CatalogueRefusal.TheVariants.{Inactive, NotSold, Full}
 use Rattle.model_catalogue.specs.CatalogueLists.{CatalogueLists, is_active, is_sold}

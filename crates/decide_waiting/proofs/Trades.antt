@@ -4,9 +4,9 @@ use Rattle.std.specs.Prelude.{if◌then◌else◌}
 use Rattle.std.proofs.lemmas.Bool.Decides.{nat_tests}
 use Rattle.std.proofs.lemmas.List.Sums.{sum_by-le-sum_by}
 use Rattle.base_values.specs.declared.draw.Draw.{Draw}
-use Rattle.base_sorted.specs.Tables.{sum_at, with_row}
-use Rattle.base_sorted.proofs.Edits.{sum_by-with_row, row_at-with_row}
-use Rattle.base_sorted.proofs.Places.{with_row_in_order}
+use Rattle.base_tables.specs.Tables.{sum_at, with_row}
+use Rattle.base_tables.proofs.Edits.{sum_by-with_row, row_at-with_row}
+use Rattle.base_tables.proofs.Places.{with_row_in_order}
 use Rattle.model_catalogue.specs.declared.rows.Product.{Product}
 use Rattle.model_catalogue.specs.declared.rows.Quota.{Quota}
 use Rattle.model_catalogue.specs.Member.{is_in, lists as quota_lists}

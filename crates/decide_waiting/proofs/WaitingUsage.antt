@@ -1,7 +1,7 @@
 -- The usage of a quota after an entry came, changed or went.
 use Rattle.std.proofs.Common.{◌≡◌, ℕ, ◌+◌, ◌≤◌, ◌&&◌, Option, Some, None, ap, ◌∙◌, arith}
-use Rattle.base_sorted.specs.Tables.{sum_at}
-use Rattle.base_sorted.proofs.Edits.{sum_by-with_row, sum_by-without_row}
+use Rattle.base_tables.specs.Tables.{sum_at}
+use Rattle.base_tables.proofs.Edits.{sum_by-with_row, sum_by-without_row}
 use Rattle.model_catalogue.specs.declared.rows.Quota.{Quota}
 use Rattle.model_catalogue.specs.Member.{is_in}
 use Rattle.model_rows.specs.declared.rows.Waiting.{Waiting}

@@ -8,7 +8,7 @@ use Rattle.model_rows.specs.Available.{available_number}
 use Rattle.model_rows.specs.Lists.{State}
 use Rattle.decide_waiting.specs.Places.{used_unwaited, is_full}
 use Rattle.base_values.specs.Moments.{last_moment}
-use Rattle.base_sorted.specs.Tables.{AreInOrder}
+use Rattle.base_tables.specs.Tables.{AreInOrder}
 use Rattle.model_rows.specs.declared.rows.Usage.{Usage}
 use Rattle.model_rows.specs.Fits.{AllFit}
 use Rattle.model_invariant.specs.Ids.{AreNumbered}

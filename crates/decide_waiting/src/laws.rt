@@ -9,7 +9,7 @@ ghost use Rattle.model_rows.specs.Lists.{Lists, State};
 ghost use Rattle.model_rows.specs.Takes.{places_used};
 ghost use Rattle.model_rows.specs.Usage.{usage_of};
 ghost use Rattle.model_rows.specs.Waits.{waiters};
-ghost use Rattle.base_sorted.specs.Tables.{AreInOrder};
+ghost use Rattle.base_tables.specs.Tables.{AreInOrder};
 ghost use Rattle.model_invariant.specs.Sound.{IsSound};
 ghost use Rattle.model_commands.specs.FitRequests.{IsFitWaiting, IsFitWaitingPatch};
 ghost use Rattle.decide_waiting.specs.Done.{EntryJoined, EntryChanged, VoucherSent};

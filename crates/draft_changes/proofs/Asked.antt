@@ -2,9 +2,9 @@
 use Rattle.std.proofs.Common.{◌≡◌, ◌≢◌, ℕ, Bool, true, false, eqb, List, Some, ◌⊎◌, inl, inr, sym, ap, ◌∙◌, subst, arith}
 use Rattle.std.specs.Prelude.{if◌then◌else◌}
 use Rattle.std.proofs.lemmas.Bool.Decides.{eqb_tells}
-use Rattle.base_sorted.specs.Tables.{row_at, with_row}
-use Rattle.base_sorted.proofs.Edits.{row_at-with_row}
-use Rattle.base_sorted.proofs.Places.{with_row_in_order}
+use Rattle.base_tables.specs.Tables.{row_at, with_row}
+use Rattle.base_tables.proofs.Edits.{row_at-with_row}
+use Rattle.base_tables.proofs.Places.{with_row_in_order}
 use Rattle.model_rows.specs.Lists.{Lists}
 use Rattle.draft_changes.specs.declared.bases.Base.{Base}
 use Rattle.draft_changes.specs.Used.{IsBase, AreBases}

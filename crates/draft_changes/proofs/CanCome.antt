@@ -1,7 +1,7 @@
 -- Which changes can come: those that keep headroom.
 use Rattle.std.proofs.Common.{◌≡◌, ℕ, true}
 use Rattle.std.specs.Prelude.{◌||◌, not, None}
-use Rattle.base_sorted.specs.Tables.{AreInOrder}
+use Rattle.base_tables.specs.Tables.{AreInOrder}
 use Rattle.model_rows.specs.declared.rows.Voucher.{Voucher}
 use Rattle.model_rows.specs.declared.rows.CartPos.{CartPos}
 use Rattle.model_rows.specs.declared.rows.Order.{Order}

@@ -5,12 +5,12 @@ use Rattle.std.proofs.lemmas.Bool.{cases_lt}
 use Rattle.std.proofs.lemmas.Bool.Decides.{nat_tests, eqb_tells}
 use Rattle.std.proofs.lemmas.List.{get_or_default}
 use Rattle.book_log.specs.Places.{further}
-use Rattle.base_sorted.specs.Tables.{has, row_at, InOrderFrom, AreInOrder}
-use Rattle.base_sorted.specs.Rising.{rising}
-use Rattle.base_sorted.proofs.Appended.{has-append, neither}
-use Rattle.base_sorted.proofs.Edits.{row_at-with_row, row_at-without_row}
-use Rattle.base_sorted.proofs.Places.{at_least}
-use Rattle.base_sorted.proofs.RisingLemmas.{has-rising, rising_in_order}
+use Rattle.base_tables.specs.Tables.{has, row_at, InOrderFrom, AreInOrder}
+use Rattle.base_tables.specs.Rising.{rising}
+use Rattle.base_tables.proofs.Appended.{has-append, neither}
+use Rattle.base_tables.proofs.Edits.{row_at-with_row, row_at-without_row}
+use Rattle.base_tables.proofs.Places.{at_least}
+use Rattle.base_tables.proofs.RisingLemmas.{has-rising, rising_in_order}
 use Rattle.model_catalogue.specs.declared.rows.Quota.{Quota}
 use Rattle.model_catalogue.specs.CatalogueLists.{quota_at}
 use Rattle.model_rows.specs.declared.changes.Change.{Change}

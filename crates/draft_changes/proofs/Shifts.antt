@@ -2,8 +2,8 @@
 use Rattle.std.proofs.Common.{◌≡◌, ℕ, ◌+◌, ◌-◌, Bool, true, false, ◌&&◌, Option, Some, None, refl, sym, ap, ◌∙◌, count_by, sum_by, arith}
 use mathlib.Core.Bool.{beq}
 use Rattle.std.specs.Prelude.{if◌then◌else◌, not}
-use Rattle.base_sorted.specs.Tables.{AreInOrder, sum_at, with_row, without_row}
-use Rattle.base_sorted.proofs.Edits.{row_at-with_row, row_at-without_row, sum_by-with_row, sum_by-without_row}
+use Rattle.base_tables.specs.Tables.{AreInOrder, sum_at, with_row, without_row}
+use Rattle.base_tables.proofs.Edits.{row_at-with_row, row_at-without_row, sum_by-with_row, sum_by-without_row}
 use Rattle.model_catalogue.specs.declared.rows.Quota.{Quota}
 use Rattle.model_catalogue.specs.Member.{is_in}
 use Rattle.model_rows.specs.declared.rows.CartPos.{CartPos}

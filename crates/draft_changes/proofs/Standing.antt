@@ -1,6 +1,6 @@
 -- A quota that is one of the catalogue's is the one of its id, and of its place.
 use Rattle.std.proofs.Common.{◌≡◌, ℕ, ◌<◌, List, length, get_or, Some, sym, ap, ◌∙◌, subst}
-use Rattle.base_sorted.specs.Tables.{row_at, AreInOrder}
+use Rattle.base_tables.specs.Tables.{row_at, AreInOrder}
 use Rattle.draft_deltas.specs.Counts.{value_at}
 use Rattle.draft_deltas.proofs.Values.{value_here}
 use Rattle.model_catalogue.proofs.Standing.{stands_at}

@@ -1,6 +1,6 @@
 -- What a draft hands on of its counts: a shift for each quota and each voucher that its changes touched.
 use Rattle.std.specs.Prelude.{◌≡◌, ℕ, false, List, [], ◌∷◌, flat_map, is_some}
-use Rattle.base_sorted.specs.Tables.{has}
+use Rattle.base_tables.specs.Tables.{has}
 use Rattle.model_catalogue.specs.declared.rows.Quota.{Quota}
 use Rattle.model_rows.specs.declared.changes.Change.{Change}
 use Rattle.model_rows.specs.declared.changes.Change.TheVariants.{PutVoucher, DropVoucher}

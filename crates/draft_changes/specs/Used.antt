@@ -1,7 +1,7 @@
 -- All that is used of a quota, and what a draft keeps of that.
 use Rattle.std.specs.Prelude.{◌≡◌, ℕ, ◌≤◌, ◌+◌, List, [], ◌∷◌, Some}
 use Rattle.std.specs.Coded.{×_prop, Unit-prop, le_prop, Coded-set, coded_ℕ}
-use Rattle.base_sorted.specs.Tables.{row_at, InOrderFrom, AreInOrder}
+use Rattle.base_tables.specs.Tables.{row_at, InOrderFrom, AreInOrder}
 use Rattle.model_catalogue.specs.declared.rows.Quota.{Quota}
 use Rattle.model_rows.specs.Lists.{Lists}
 use Rattle.model_rows.specs.Total.{total}

@@ -4,7 +4,7 @@ ghost use Rattle.std.specs.Prelude.{◌≡◌, ◌≤◌, Some};
 ghost use Rattle.model_catalogue.specs.CatalogueLists.{quota_at};
 ghost use Rattle.draft_changes.specs.Used.{places_used, most_used, AreBases};
 
-use base_sorted::{Row, place_of};
+use base_tables::{Row, place_of};
 use base_values::Moment;
 use book_tally::Tally;
 use book_usage::{Book, usage_of};

@@ -4,7 +4,7 @@ ghost use Rattle.std.specs.Prelude.{true, not, ◌||◌, ◌≡◌, [], ◌≤�
 ghost use Rattle.model_rows.specs.Lists.{position_at, checkin_at};
 ghost use Rattle.model_rows.specs.Headroom.{has_use, held, HasHeadroom, AllHaveHeadroom};
 ghost use Rattle.model_rows.specs.Conditions.{is_live_cart};
-ghost use Rattle.base_sorted.specs.Tables.{AreInOrder};
+ghost use Rattle.base_tables.specs.Tables.{AreInOrder};
 ghost use Rattle.model_rows.specs.Over.{first_over};
 ghost use Rattle.model_rows.specs.Change.{change_applied};
 ghost use Rattle.draft_changes.specs.DraftState.{DraftState, MarkState, IsMarkOf, Extends, Makes, now, back, with_change};

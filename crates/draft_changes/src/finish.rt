@@ -1,13 +1,13 @@
 //! What a draft hands on with its changes: what they shift of the counts, as it counted them.
 
 ghost use Rattle.std.specs.Prelude.{◌≡◌, ◌++◌, IfOk, OnOk, OnErr, map, flat_map};
-ghost use Rattle.base_sorted.specs.Rising.{rising};
+ghost use Rattle.base_tables.specs.Rising.{rising};
 ghost use Rattle.draft_deltas.specs.Logs.{rows_of};
 ghost use Rattle.book_tally.specs.Shifts.{AreShifts};
 ghost use Rattle.draft_changes.specs.DraftState.{IsCounted, AreKept};
 ghost use Rattle.draft_changes.specs.Handed.{vouchers_by, AreNoted, quota_shift, voucher_shift};
 
-use base_sorted::Ids;
+use base_tables::Ids;
 use base_values::Moment;
 use book_tally::{Amount, QuotaShift, Shifts, Tally, Uses, VoucherShift};
 use book_usage::{Book, LookUps};

@@ -13,7 +13,7 @@ ghost use Rattle.book_tally.specs.Counts.{newest};
 
 use crate::bases::{Base, used_in_book};
 use crate::weighed::is_too_much;
-use base_sorted::place_of;
+use base_tables::place_of;
 use base_values::Moment;
 use book_tally::{Count, Tally};
 use book_usage::Book;

@@ -5,12 +5,12 @@ use Rattle.std.specs.List.{AllByRecursion}
 use Rattle.std.specs.Result.{is_err}
 use Rattle.std.proofs.lemmas.Bool.Decides.{nat_tests, eqb_tells}
 use Rattle.std.proofs.lemmas.List.{take_more}
-use Rattle.base_sorted.specs.Tables.{has, row_at, InOrderFrom, AreInOrder, IsPlace, IsGap}
-use Rattle.base_sorted.specs.Rising.{rising}
-use Rattle.base_sorted.proofs.Appended.{has-append, neither}
-use Rattle.base_sorted.proofs.Edits.{row_at_above}
-use Rattle.base_sorted.proofs.Places.{at_least, row_at_gap}
-use Rattle.base_sorted.proofs.RisingLemmas.{has-rising}
+use Rattle.base_tables.specs.Tables.{has, row_at, InOrderFrom, AreInOrder, IsPlace, IsGap}
+use Rattle.base_tables.specs.Rising.{rising}
+use Rattle.base_tables.proofs.Appended.{has-append, neither}
+use Rattle.base_tables.proofs.Edits.{row_at_above}
+use Rattle.base_tables.proofs.Places.{at_least, row_at_gap}
+use Rattle.base_tables.proofs.RisingLemmas.{has-rising}
 use Rattle.model_catalogue.specs.declared.rows.Quota.{Quota}
 use Rattle.model_catalogue.specs.declared.rows.Product.{Product}
 use Rattle.model_catalogue.specs.CatalogueLists.{CatalogueLists, quota_at}

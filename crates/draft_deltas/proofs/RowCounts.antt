@@ -1,8 +1,8 @@
 -- How many rows there are after one came or went.
 use Rattle.std.proofs.Common.{◌≡◌, ℕ, ◌+◌, ◌-◌, List, [], ◌∷◌, length, refl, sum_by, arith}
 use Rattle.std.proofs.lemmas.List.Sums.{sum_by-cons}
-use Rattle.base_sorted.specs.Tables.{AreInOrder, row_at, sum_at, with_row, without_row}
-use Rattle.base_sorted.proofs.Edits.{sum_by-with_row, sum_by-without_row}
+use Rattle.base_tables.specs.Tables.{AreInOrder, row_at, sum_at, with_row, without_row}
+use Rattle.base_tables.proofs.Edits.{sum_by-with_row, sum_by-without_row}
 
 length_is : {T : Type 0} (rows : List T) → length rows ≡ sum_by (λ r. 1) rows
 length_is [] = refl

@@ -3,8 +3,8 @@ use mathlib.Core.Bool.{beq}
 use Rattle.std.proofs.Common.{◌≡◌, ℕ, ◌+◌, Bool, true, false, ◌&&◌, List, [], ◌∷◌, eqb, Option, None, Some, refl, sym, ap, ◌∙◌, sum_by, arith}
 use Rattle.std.specs.Prelude.{if◌then◌else◌, not}
 use Rattle.std.proofs.lemmas.List.Sums.{sum_by-cons}
-use Rattle.base_sorted.specs.Tables.{sum_at, AreInOrder}
-use Rattle.base_sorted.proofs.Edits.{sum_by-with_row, sum_by-without_row}
+use Rattle.base_tables.specs.Tables.{sum_at, AreInOrder}
+use Rattle.base_tables.proofs.Edits.{sum_by-with_row, sum_by-without_row}
 use Rattle.model_rows.specs.declared.rows.CartPos.{CartPos}
 use Rattle.model_rows.specs.declared.rows.Order.{Order}
 use Rattle.model_rows.specs.declared.rows.OrderPos.{OrderPos}

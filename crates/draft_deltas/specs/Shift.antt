@@ -2,7 +2,7 @@
 use mathlib.Core.Bool.{beq}
 use Rattle.std.specs.Prelude.{◌≡◌, ℕ, ◌-◌, Bool, true, false, ◌&&◌, not, List, Option, Some, None, count_by, if◌then◌else◌}
 use Rattle.std.specs.Option.{option_copied}
-use Rattle.base_sorted.specs.Tables.{sum_at}
+use Rattle.base_tables.specs.Tables.{sum_at}
 use Rattle.model_catalogue.specs.declared.rows.Quota.{Quota}
 use Rattle.model_catalogue.specs.declared.rows.Product.{Product}
 use Rattle.model_catalogue.specs.Member.{is_in}

@@ -1,6 +1,6 @@
 -- Which quotas a change can touch: the usage of no other one changes.
 use Rattle.std.specs.Prelude.{◌≡◌, ℕ, ◌==◌, Bool, false, List, Some, if◌then◌else◌}
-use Rattle.base_sorted.specs.Tables.{has}
+use Rattle.base_tables.specs.Tables.{has}
 use Rattle.model_catalogue.specs.declared.rows.Quota.{Quota}
 use Rattle.model_catalogue.specs.CatalogueLists.{CatalogueLists, quota_at}
 use Rattle.model_rows.specs.declared.rows.Usage.{Usage}

@@ -2,7 +2,7 @@
 
 ghost use Rattle.std.specs.Prelude.{◌≡◌, ◌-◌, length};
 ghost use Rattle.std.specs.Option.{option_copied};
-ghost use Rattle.base_sorted.specs.Tables.{sum_at};
+ghost use Rattle.base_tables.specs.Tables.{sum_at};
 ghost use Rattle.model_rows.specs.Change.{after_change};
 ghost use Rattle.draft_overlay.specs.Logs.{rows_of};
 

@@ -1,7 +1,7 @@
 //! What a change brings to each quota and takes from it, counted by the quota's place.
 
 ghost use Rattle.std.specs.Prelude.{◌≡◌, ℕ, ◌==◌, true, OnOk, OnErr, if◌then◌else◌};
-ghost use Rattle.base_sorted.specs.Tables.{AreInOrder};
+ghost use Rattle.base_tables.specs.Tables.{AreInOrder};
 ghost use Rattle.model_catalogue.specs.declared.rows.Quota.{Quota};
 ghost use Rattle.model_rows.specs.declared.rows.Usage.{Usage};
 ghost use Rattle.draft_deltas.specs.Counts.{IsMore};
@@ -9,7 +9,7 @@ ghost use Rattle.book_tally.specs.Amounts.{nothing, plus};
 ghost use Rattle.book_tally.specs.Counts.{came, went, GoesOn};
 ghost use Rattle.draft_deltas.specs.Touched.{NoneElse, Keeps, among, at_id};
 
-use base_sorted::{Ids, place_of};
+use base_tables::{Ids, place_of};
 use book_tally::{Amount, Tally};
 use book_usage::Catalogue;
 use model_catalogue::Quota;

@@ -2,7 +2,7 @@
 
 ghost use Rattle.std.specs.Prelude.{◌≡◌, ◌-◌, ◌&&◌, ℕ, IfOk, OnOk, OnErr, length, count_by, false, true, Some};
 ghost use Rattle.std.specs.Option.{option_copied};
-ghost use Rattle.base_sorted.specs.Tables.{sum_at};
+ghost use Rattle.base_tables.specs.Tables.{sum_at};
 ghost use Rattle.model_catalogue.specs.declared.rows.Quota.{Quota};
 ghost use Rattle.model_catalogue.specs.Member.{is_in};
 ghost use Rattle.model_rows.specs.declared.changes.Change.TheVariants.{PutPosition};

@@ -3,9 +3,9 @@ use Rattle.std.proofs.Common.{◌≡◌, ℕ, ◌+◌, ◌<◌, ◌≤◌, ◌�
 use Rattle.std.specs.Prelude.{find, option_map, is_none, min, if◌then◌else◌}
 use Rattle.std.proofs.lemmas.Option.{none-some}
 use Rattle.std.proofs.lemmas.Bool.Decides.{nat_tests, leb_tells, eqb_tells}
-use Rattle.base_sorted.specs.Tables.{row_at, InOrderFrom, AreInOrder}
+use Rattle.base_tables.specs.Tables.{row_at, InOrderFrom, AreInOrder}
 use Rattle.base_values.specs.Texts.{same_text}
-use Rattle.base_sorted.proofs.Edits.{row_at_above}
+use Rattle.base_tables.proofs.Edits.{row_at_above}
 use Rattle.model_rows.specs.declared.rows.Voucher.{Voucher}
 use Rattle.model_rows.specs.declared.changes.Change.{Change}
 use Rattle.model_rows.specs.declared.changes.Change.TheVariants.{PutItem, PutVariation, PutQuota, PutVoucher, PutCart, PutOrder, PutPosition, PutWaiting, DropVoucher, DropCart, DropWaiting, PutCheckinList, PutCheckin}

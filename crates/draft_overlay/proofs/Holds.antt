@@ -2,8 +2,8 @@
 use Rattle.std.proofs.Common.{◌≡◌, ℕ, ◌+◌, ◌<◌, Bool, true, false, length, get_or, refl, ap, ◌∙◌, count_by}
 use mir.Val.{bool_byte}
 use Rattle.std.specs.Prelude.{if◌then◌else◌}
-use Rattle.base_sorted.specs.Tables.{sum_at, AreInOrder}
-use Rattle.base_sorted.proofs.Edits.{sum_by-with_row, sum_by-without_row}
+use Rattle.base_tables.specs.Tables.{sum_at, AreInOrder}
+use Rattle.base_tables.proofs.Edits.{sum_by-with_row, sum_by-without_row}
 use Rattle.model_rows.specs.declared.rows.CartPos.{CartPos}
 use Rattle.model_rows.specs.declared.changes.Change.{Change}
 use Rattle.model_rows.specs.declared.changes.Change.TheVariants.{PutCart, DropCart}

@@ -1,7 +1,7 @@
 -- Every list stays in order, and grows by one at most.
 use Rattle.std.proofs.Common.{◌≡◌, ℕ, ◌+◌, List, [], ◌∷◌, length, arith, suc, add-zero}
-use Rattle.base_sorted.specs.Tables.{AreKept}
-use Rattle.base_sorted.proofs.Edits.{kept_more, kept-with_row, kept-without_row}
+use Rattle.base_tables.specs.Tables.{AreKept}
+use Rattle.base_tables.proofs.Edits.{kept_more, kept-with_row, kept-without_row}
 use Rattle.model_rows.specs.declared.changes.Change.{Change}
 use Rattle.model_rows.specs.declared.changes.Change.TheVariants.{PutVoucher, PutCart, PutOrder, PutPosition, PutWaiting, DropVoucher, DropCart, DropWaiting, PutCheckinList, PutCheckin}
 use Rattle.model_rows.specs.Lists.{Lists}

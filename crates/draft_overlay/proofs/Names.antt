@@ -3,8 +3,8 @@ use Rattle.std.proofs.Common.{◌≡◌, ℕ, zero, suc, ◌+◌, ◌<◌, ◌||
 use Rattle.std.specs.Prelude.{if◌then◌else◌, nat_lt}
 use Rattle.std.specs.List.{list_any}
 use Rattle.std.proofs.lemmas.Bool.Decides.{nat_tests}
-use Rattle.base_sorted.specs.Tables.{sum_at}
-use Rattle.base_sorted.proofs.Edits.{sum_by-with_row, sum_by-without_row}
+use Rattle.base_tables.specs.Tables.{sum_at}
+use Rattle.base_tables.proofs.Edits.{sum_by-with_row, sum_by-without_row}
 use Rattle.model_rows.specs.declared.rows.CartPos.{CartPos}
 use Rattle.model_rows.specs.declared.rows.OrderPos.{OrderPos}
 use Rattle.model_rows.specs.declared.rows.Waiting.{Waiting}

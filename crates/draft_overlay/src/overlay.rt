@@ -12,7 +12,7 @@ ghost use Rattle.draft_overlay.specs.Names.{name_gone, touches_names};
 ghost use Rattle.draft_overlay.specs.Coded.{IsLeast, lesser, IsPutBelow, IsUnchanged, is_place, put_if, first_unchanged};
 ghost use Rattle.book_log.specs.Places.{touches, touches_table, last_place};
 ghost use Rattle.model_rows.specs.Kept.{IsKept};
-ghost use Rattle.base_sorted.specs.Tables.{sum_at};
+ghost use Rattle.base_tables.specs.Tables.{sum_at};
 ghost use Rattle.model_rows.specs.Headroom.{held};
 ghost use Rattle.model_rows.specs.Asked.{held_in};
 ghost use Rattle.draft_overlay.specs.Logs.{Log, rows_of, rows_at, log_with, IsSale, AreSales};

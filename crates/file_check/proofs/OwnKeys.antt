@@ -4,10 +4,10 @@ use Rattle.std.specs.Prelude.{◌||◌, ◌==◌}
 use Rattle.std.specs.List.{AllByRecursion, filter_map}
 use Rattle.std.specs.Cmp.Lexicographic.{bytes_decides}
 use Rattle.std.proofs.lemmas.Bool.Decides.{nat_tests}
-use Rattle.base_sorted.specs.Tables.{has, with_row, InOrderFrom, AreInOrder}
-use Rattle.base_sorted.specs.Rising.{with_ids, rising}
+use Rattle.base_tables.specs.Tables.{has, with_row, InOrderFrom, AreInOrder}
+use Rattle.base_tables.specs.Rising.{with_ids, rising}
 use Rattle.base_values.specs.Texts.{same_text}
-use Rattle.base_sorted.proofs.Places.{with_row_in_order}
+use Rattle.base_tables.proofs.Places.{with_row_in_order}
 use Rattle.model_rows.specs.declared.rows.Checkin.{Checkin}
 use Rattle.model_rows.proofs.EachRow.{all_weaker, all_of, neither_first, neither_second}
 use Rattle.model_invariant.specs.Checkins.{same_nonce, repeats, AreOnce}

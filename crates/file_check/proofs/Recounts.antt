@@ -1,6 +1,6 @@
 -- Counters, row by row, beside what is counted afresh.
 use Rattle.std.proofs.Common.{◌≡◌, ◌↔◌, ℕ, zero, suc, ◌+◌, ◌<◌, List, [], ◌∷◌, length, drop, map, get_or, Some, add-one, sym, ap, ◌∙◌, subst, arith}
-use Rattle.base_sorted.specs.Tables.{row_at, AreInOrder}
+use Rattle.base_tables.specs.Tables.{row_at, AreInOrder}
 use Rattle.model_catalogue.proofs.Standing.{stands_at}
 use Rattle.model_catalogue.specs.declared.rows.Quota.{Quota}
 use Rattle.model_catalogue.specs.CatalogueLists.{CatalogueLists, quota_at}

@@ -6,7 +6,7 @@ ghost use Rattle.model_invariant.specs.Checkins.{has_item, HasItems, IsCheckedIn
 ghost use Rattle.model_rules.specs.Tests.{TellsWhether};
 
 use crate::are_once;
-use base_sorted::are_rising;
+use base_tables::are_rising;
 use book_usage::{Book, Catalogue};
 use model_rows::{Checkin, CheckinList};
 use std::alloc::{AllocError, Global};

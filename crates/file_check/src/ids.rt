@@ -5,7 +5,7 @@ ghost use Rattle.std.specs.List.{AllByRecursion};
 ghost use Rattle.model_invariant.specs.Ids.{AreNumbered, AllNumbered};
 ghost use Rattle.model_rules.specs.Told.{lists_of};
 
-use base_sorted::{Row, rises};
+use base_tables::{Row, rises};
 use model_rules::FileRows;
 
 /// Whether each id is at least 1.

@@ -2,11 +2,11 @@
 
 ghost use Rattle.std.specs.Prelude.{◌≡◌, ◌==◌, IfOk, true, length};
 ghost use Rattle.std.specs.List.{filter_map};
-ghost use Rattle.base_sorted.specs.Rising.{rising};
+ghost use Rattle.base_tables.specs.Rising.{rising};
 ghost use Rattle.model_invariant.specs.Checkins.{AreOnce};
 ghost use Rattle.file_check.specs.Keys.{nonce_key};
 
-use base_sorted::Ids;
+use base_tables::Ids;
 use book_indexes::digest;
 use model_rows::Checkin;
 use std::alloc::{AllocError, Global};

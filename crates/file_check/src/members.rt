@@ -3,7 +3,7 @@
 ghost use Rattle.model_invariant.specs.Members.{HasMembers, AllHaveMembers};
 ghost use Rattle.model_rules.specs.Tests.{TellsWhether};
 
-use base_sorted::are_rising;
+use base_tables::are_rising;
 use book_usage::{Book, Catalogue};
 use decide_catalogue::members::{items_fit, items_stand, variations_fit, variations_stand};
 use model_catalogue::Quota;

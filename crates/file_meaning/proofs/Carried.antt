@@ -6,8 +6,8 @@ use Rattle.std.specs.List.Sorted.{IsPermutation}
 use Rattle.std.proofs.lemmas.Bool.Decides.{nat_tests}
 use Rattle.std.proofs.lemmas.List.Sorted.{IsPermutation-sym, IsPermutation-trans, IsPermutation-cons, IsPermutation-map, IsPermutation-to_front}
 use Rattle.sqlite_trees.proofs.ListLemmas.{filter-map, filter-filter, IsPermutation-filter}
-use Rattle.base_sorted.specs.Tables.{row_at, with_row, InOrderFrom, AreInOrder}
-use Rattle.base_sorted.proofs.Edits.{row_at_above, row_at-with_row}
+use Rattle.base_tables.specs.Tables.{row_at, with_row, InOrderFrom, AreInOrder}
+use Rattle.base_tables.proofs.Edits.{row_at_above, row_at-with_row}
 use Rattle.model_rows.specs.declared.changes.Change.{Change}
 use Rattle.model_rows.specs.declared.count_rows.QuotaCount.{QuotaCount}
 use Rattle.model_rows.specs.declared.count_rows.VoucherCount.{VoucherCount}

@@ -4,7 +4,7 @@ use Rattle.std.specs.List.{AllByRecursion}
 use Rattle.std.specs.List.Sorted.{IsPermutation}
 use Rattle.std.proofs.lemmas.List.Sorted.{IsPermutation-trans, IsPermutation-cons, IsPermutation-map}
 use Rattle.sqlite_trees.proofs.ListLemmas.{IsPermutation-filter, filter-map}
-use Rattle.base_sorted.specs.Tables.{row_at, with_row, without_row, AreInOrder}
+use Rattle.base_tables.specs.Tables.{row_at, with_row, without_row, AreInOrder}
 use Rattle.model_rows.specs.declared.changes.Change.{Change}
 use Rattle.model_rows.specs.declared.changes.Change.TheVariants.{PutItem, PutVariation, PutQuota, PutVoucher, PutCart, PutOrder, PutPosition, PutWaiting, DropVoucher, DropCart, DropWaiting, PutCheckinList, PutCheckin}
 use Rattle.model_rows.specs.Change.{after_change}

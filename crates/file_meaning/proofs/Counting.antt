@@ -2,8 +2,8 @@
 use Rattle.std.proofs.Common.{◌≡◌, ℕ, ◌+◌, ◌==◌, Bool, true, false, cond, not, ◌||◌, ◌&&◌, List, [], ◌∷◌, map, filter, Option, Some, None, is_some, refl, sym, ap, subst, ◌∙◌, arith, ◌⊎◌, inl, inr}
 use Rattle.std.specs.List.{list_any}
 use Rattle.std.proofs.lemmas.Bool.{and_parts, eqb-true}
-use Rattle.base_sorted.specs.Tables.{row_at, with_row, without_row, InOrderFrom, AreInOrder}
-use Rattle.base_sorted.proofs.Edits.{row_at-with_row, row_at-without_row}
+use Rattle.base_tables.specs.Tables.{row_at, with_row, without_row, InOrderFrom, AreInOrder}
+use Rattle.base_tables.proofs.Edits.{row_at-with_row, row_at-without_row}
 use Rattle.model_rows.specs.declared.rows.Usage.{Usage}
 use Rattle.model_rows.specs.declared.rows.Voucher.{Voucher}
 use Rattle.model_rows.specs.declared.count_rows.QuotaCount.{QuotaCount}

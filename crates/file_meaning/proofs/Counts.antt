@@ -2,10 +2,10 @@
 use Rattle.std.proofs.Common.{◌≡◌, ℕ, ◌+◌, ◌≤◌, ◌==◌, Bool, true, false, cond, not, ◌||◌, List, [], ◌∷◌, map, filter, Option, Some, None, refl, sym, ap, subst, ◌∙◌, arith}
 use Rattle.std.specs.List.{list_any}
 use Rattle.std.proofs.lemmas.Bool.Decides.{nat_tests}
-use Rattle.base_sorted.specs.Tables.{row_at, with_row, InOrderFrom, AreInOrder}
-use Rattle.base_sorted.proofs.Edits.{row_at-with_row, row_at_above}
+use Rattle.base_tables.specs.Tables.{row_at, with_row, InOrderFrom, AreInOrder}
+use Rattle.base_tables.proofs.Edits.{row_at-with_row, row_at_above}
 use Rattle.file_meaning.specs.Counts.{with_all}
-use Rattle.base_sorted.proofs.Places.{filter_in_order}
+use Rattle.base_tables.proofs.Places.{filter_in_order}
 use Rattle.file_meaning.proofs.Order.{put_stays}
 use Rattle.file_meaning.proofs.Told.{order_of_parts}
 

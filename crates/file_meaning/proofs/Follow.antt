@@ -3,7 +3,7 @@ use Rattle.std.proofs.Common.{◌≡◌, ℕ, Bool, true, false, List, [], ◌�
 use Rattle.std.specs.List.{AllByRecursion}
 use Rattle.std.specs.List.Sorted.{IsPermutation}
 use Rattle.std.proofs.lemmas.List.Sorted.{IsPermutation-trans, IsPermutation-refl}
-use Rattle.base_sorted.specs.Tables.{AreInOrder, with_row, without_row}
+use Rattle.base_tables.specs.Tables.{AreInOrder, with_row, without_row}
 use Rattle.model_rows.specs.declared.count_rows.VoucherCount.{VoucherCount}
 use Rattle.model_rows.specs.declared.rows.Voucher.{Voucher}
 use Rattle.model_rows.specs.declared.changes.Change.{Change}

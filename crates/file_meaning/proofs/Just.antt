@@ -5,8 +5,8 @@ use Rattle.std.proofs.lemmas.Bool.{and_parts}
 use Rattle.std.proofs.lemmas.Bool.Decides.{nat_tests}
 use Rattle.std.proofs.lemmas.List.Sorted.{IsPermutation-refl, IsPermutation-sym, IsPermutation-trans, IsPermutation-cons, IsPermutation-middle, IsPermutation-append_right}
 use Rattle.std.proofs.lemmas.Slice.Eq.{bytes_eq-Decides}
-use Rattle.base_sorted.specs.Rising.{with_ids, rising}
-use Rattle.base_sorted.specs.Tables.{with_row}
+use Rattle.base_tables.specs.Rising.{with_ids, rising}
+use Rattle.base_tables.specs.Tables.{with_row}
 use Rattle.file_meaning.specs.Links.{are_just}
 
 abbrev with_one : ℕ → List ℕ → List ℕ

@@ -4,9 +4,9 @@ use Rattle.std.specs.List.{AllByRecursion}
 use Rattle.std.specs.List.Sorted.{IsPermutation}
 use Rattle.std.proofs.lemmas.List.Sorted.{IsPermutation-trans, IsPermutation-map, IsPermutation-append_right}
 use Rattle.sqlite_trees.proofs.ListLemmas.{IsPermutation-filter, IsPermutation-flat_map}
-use Rattle.base_sorted.specs.Tables.{with_row, without_row, AreInOrder}
+use Rattle.base_tables.specs.Tables.{with_row, without_row, AreInOrder}
 use Rattle.file_meaning.specs.Links.{Link, links, all_links, links_but}
-use Rattle.base_sorted.proofs.Places.{order_weaker}
+use Rattle.base_tables.proofs.Places.{order_weaker}
 use Rattle.file_meaning.proofs.Order.{put_in, only_first, first_gone, same_order}
 
 pub filter_append : {A : Type 0} (p : A → Bool) (xs ys : List A) → filter p (xs ++ ys) ≡ filter p xs ++ filter p ys

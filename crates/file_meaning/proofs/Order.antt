@@ -5,8 +5,8 @@ use Rattle.std.proofs.lemmas.Bool.Decides.{nat_tests}
 use Rattle.std.proofs.lemmas.List.Sorted.{IsPermutation-refl, IsPermutation-sym, IsPermutation-trans, IsPermutation-cons, IsPermutation-middle, length_permutation}
 use Rattle.sqlite_trees.proofs.ListLemmas.{IsPermutation-filter}
 use Rattle.sqlite.proofs.Callers.{one_permutation}
-use Rattle.base_sorted.specs.Tables.{with_row, without_row, InOrderFrom, AreInOrder}
-use Rattle.base_sorted.proofs.Places.{order_weaker, without_above, with_row_in_order, without_row_in_order}
+use Rattle.base_tables.specs.Tables.{with_row, without_row, InOrderFrom, AreInOrder}
+use Rattle.base_tables.proofs.Places.{order_weaker, without_above, with_row_in_order, without_row_in_order}
 
 module _ {T : Type 0} (key : T → ℕ) where
   abbrev pub rows_at : ℕ → List T → List T

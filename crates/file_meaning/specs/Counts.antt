@@ -1,6 +1,6 @@
 -- Counts that are put one after another.
 use Rattle.std.specs.Prelude.{◌≡◌, ◌⊎◌, ℕ, Bool, true, List, [], ◌∷◌, Some, None, is_some}
-use Rattle.base_sorted.specs.Tables.{row_at, with_row, AreInOrder}
+use Rattle.base_tables.specs.Tables.{row_at, with_row, AreInOrder}
 use Rattle.model_rows.specs.declared.rows.Voucher.{Voucher}
 use Rattle.model_rows.specs.declared.count_rows.VoucherCount.{VoucherCount}
 

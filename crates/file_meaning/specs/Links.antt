@@ -1,6 +1,6 @@
 -- The members of rows, as a table of their own has them.
 use Rattle.std.specs.Prelude.{ℕ, Bool, not, ◌==◌, ◌&&◌, List, map, filter, flat_map, length, bytes_eq}
-use Rattle.base_sorted.specs.Rising.{rising}
+use Rattle.base_tables.specs.Rising.{rising}
 
 -- a member, and the row that it is of
 pub record Link : Type 0 where

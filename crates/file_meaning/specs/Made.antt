@@ -1,6 +1,6 @@
 -- What the statements of a commit make of the tables.
 use Rattle.std.specs.Prelude.{ℕ, Bool, ◌+◌, not, ◌==◌, if◌then◌else◌, List, [], ◌∷◌, ◌++◌, length, map, filter, is_some}
-use Rattle.base_sorted.specs.Tables.{row_at}
+use Rattle.base_tables.specs.Tables.{row_at}
 use Rattle.model_catalogue.specs.declared.rows.Quota.{Quota}
 use Rattle.model_rows.specs.declared.rows.CheckinList.{CheckinList}
 use Rattle.model_rows.specs.declared.rows.OrderPos.{OrderPos}

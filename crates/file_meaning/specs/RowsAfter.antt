@@ -1,6 +1,6 @@
 -- What a change makes of the rows of a file.
 use Rattle.std.specs.Prelude.{ℕ, if◌then◌else◌, List, ◌∷◌, ◌++◌, Option, Some, None, is_some}
-use Rattle.base_sorted.specs.Tables.{row_at, without_row}
+use Rattle.base_tables.specs.Tables.{row_at, without_row}
 use Rattle.model_rows.specs.declared.changes.Change.{Change}
 use Rattle.model_rows.specs.declared.changes.Change.TheVariants.{PutItem, PutVariation, PutQuota, PutVoucher, PutCart, PutOrder, PutPosition, PutWaiting, DropVoucher, DropCart, DropWaiting, PutCheckinList, PutCheckin}
 use Rattle.file_meaning.specs.Links.{links, links_but}

@@ -1,7 +1,7 @@
 -- When the rows of a file are those of a box office: lists by id whatever the rows' order, members as links, counts equal to recounts.
 use Rattle.std.specs.Prelude.{◌≡◌, List, [], ◌∷◌, map, IsPermutation}
 use Rattle.std.specs.List.{AllByRecursion}
-use Rattle.base_sorted.specs.Tables.{AreInOrder}
+use Rattle.base_tables.specs.Tables.{AreInOrder}
 use Rattle.model_catalogue.specs.declared.rows.Quota.{Quota}
 use Rattle.model_rows.specs.declared.rows.CheckinList.{CheckinList}
 use Rattle.model_rows.specs.declared.changes.Change.{Change}

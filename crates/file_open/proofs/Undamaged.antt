@@ -10,7 +10,7 @@ use Rattle.model_rows.specs.Lists.{State}
 use Rattle.model_rows.specs.CountRows.{quota_count, quota_counts, voucher_count, voucher_counts}
 use Rattle.model_rows.specs.declared.count_rows.QuotaCount.{QuotaCount}
 use Rattle.model_rows.specs.declared.count_rows.VoucherCount.{VoucherCount}
-use Rattle.base_sorted.specs.Tables.{AreInOrder}
+use Rattle.base_tables.specs.Tables.{AreInOrder}
 use Rattle.model_invariant.specs.Sound.{IsSound}
 use Rattle.model_answers.specs.declared.kept.Kept.{Kept}
 use Rattle.model_answers.specs.ShopView.{IsSame}

@@ -7,8 +7,8 @@ use Rattle.std.proofs.lemmas.List.{length-append, length-map}
 use Rattle.std.proofs.lemmas.List.Elements.{All-from_recursion, recursion_from_All}
 use Rattle.std.proofs.lemmas.List.Sorted.{IsPermutation-sym, All-permutation}
 use Rattle.std.proofs.lemmas.List.Sums.{sum_by-cons}
-use Rattle.base_sorted.specs.Rising.{rising}
-use Rattle.base_sorted.specs.Tables.{row_at, InOrderFrom, AreInOrder}
+use Rattle.base_tables.specs.Rising.{rising}
+use Rattle.base_tables.specs.Tables.{row_at, InOrderFrom, AreInOrder}
 use Rattle.model_rows.specs.declared.rows.OrderPos.{OrderPos}
 use Rattle.model_rows.specs.declared.rows.Voucher.{Voucher}
 use Rattle.file_rows.specs.declared.rows.BudgetRow.{BudgetRow}

@@ -4,9 +4,9 @@ use Rattle.std.specs.List.{AllByRecursion}
 use Rattle.std.specs.Prelude.{option_to_list}
 use Rattle.std.specs.List.Sorted.{IsPermutation}
 use Rattle.std.proofs.lemmas.Bool.Decides.{nat_tests}
-use Rattle.base_sorted.specs.Rising.{with_ids}
-use Rattle.base_sorted.specs.Tables.{with_row, InOrderFrom, AreInOrder}
-use Rattle.base_sorted.proofs.RisingLemmas.{rising_in_order}
+use Rattle.base_tables.specs.Rising.{with_ids}
+use Rattle.base_tables.specs.Tables.{with_row, InOrderFrom, AreInOrder}
+use Rattle.base_tables.proofs.RisingLemmas.{rising_in_order}
 use Rattle.model_catalogue.specs.declared.rows.Quota.{Quota}
 use Rattle.model_rows.specs.declared.rows.CheckinList.{CheckinList}
 use Rattle.model_rows.specs.Lists.{Lists}

@@ -7,9 +7,9 @@ use Rattle.std.proofs.lemmas.List.{map-append, length-append, length-map}
 use Rattle.std.proofs.lemmas.List.Elements.{All-nil, All-cons, All-head}
 use Rattle.std.proofs.lemmas.List.Sorted.{IsPermutation-refl, IsPermutation-sym, IsPermutation-trans, IsPermutation-cons, IsPermutation-map, IsPermutation-middle, IsPermutation-append, IsPermutation-append_left, IsPermutation-append_right, IsPermutation-append_comm, length_permutation, All-permutation, Contains-permutation}
 use Rattle.sqlite_trees.proofs.ListLemmas.{IsPermutation-filter}
-use Rattle.base_sorted.specs.Rising.{with_ids, rising}
-use Rattle.base_sorted.specs.Tables.{with_row, InOrderFrom, AreInOrder}
-use Rattle.base_sorted.proofs.RisingLemmas.{is_rising}
+use Rattle.base_tables.specs.Rising.{with_ids, rising}
+use Rattle.base_tables.specs.Tables.{with_row, InOrderFrom, AreInOrder}
+use Rattle.base_tables.proofs.RisingLemmas.{is_rising}
 use Rattle.file_meaning.specs.Links.{Link, links, all_links}
 use Rattle.file_meaning.proofs.Links.{filter_append}
 use Rattle.file_meaning.proofs.Order.{put_in, put_stays}

@@ -2,7 +2,7 @@
 use Rattle.std.proofs.Common.{◌≡◌, ℕ, ◌+◌, ◌<◌, ◌≤◌, List, [], ◌∷◌, ◌++◌, refl, sym, ap, ◌∙◌, arith, append-nil, append_assoc}
 use Rattle.std.specs.List.{AllByRecursion}
 use Rattle.std.proofs.lemmas.Bool.Decides.{nat_tests}
-use Rattle.base_sorted.specs.Tables.{with_row, InOrderFrom, AreInOrder}
+use Rattle.base_tables.specs.Tables.{with_row, InOrderFrom, AreInOrder}
 use Rattle.file_meaning.specs.Counts.{with_all}
 
 module _ {T : Type 0} (key : T → ℕ) where

@@ -3,7 +3,7 @@ use Rattle.std.proofs.Common.{◌≡◌, ℕ, zero, suc, ◌+◌, ◌<◌, ◌�
 use Rattle.std.proofs.lemmas.Bool.{cases_lt}
 use Rattle.std.proofs.lemmas.Bool.Decides.{nat_tests}
 use Rattle.std.proofs.lemmas.List.{map-append}
-use Rattle.base_sorted.specs.Tables.{InOrderFrom, AreInOrder, IsPlace, IsGap}
+use Rattle.base_tables.specs.Tables.{InOrderFrom, AreInOrder, IsPlace, IsGap}
 use Rattle.file_meaning.specs.Links.{Link}
 use Rattle.file_meaning.proofs.Links.{filter_append}
 use Rattle.file_rebuild.specs.Members.{members_told}

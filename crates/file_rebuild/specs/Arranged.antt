@@ -1,7 +1,7 @@
 -- The box office that the rows of a file tell.
 use Rattle.std.specs.Prelude.{◌≡◌, ℕ, Bool, true, false, List, [], ◌∷◌, map, IsPermutation}
 use Rattle.std.specs.List.{zip}
-use Rattle.base_sorted.specs.Tables.{AreInOrder}
+use Rattle.base_tables.specs.Tables.{AreInOrder}
 use Rattle.model_catalogue.specs.declared.rows.Quota.{Quota}
 use Rattle.model_rows.specs.declared.rows.CheckinList.{CheckinList}
 use Rattle.model_rows.specs.declared.rows.OrderPos.{OrderPos}

@@ -1,8 +1,8 @@
 -- The members of rows, as links tell them.
 use Rattle.std.specs.Prelude.{◌≡◌, ℕ, ◌==◌, List, map, filter, flat_map, Option, option_map, option_to_list}
 use Rattle.std.specs.Global.{Vec}
-use Rattle.base_sorted.specs.Rising.{rising}
-use Rattle.base_sorted.specs.Tables.{row_at}
+use Rattle.base_tables.specs.Rising.{rising}
+use Rattle.base_tables.specs.Tables.{row_at}
 use Rattle.file_meaning.specs.Links.{Link}
 use Rattle.file_meaning.specs.Rows.{budget_in}
 

@@ -12,7 +12,7 @@ use crate::lists::doors_in;
 use crate::members::both;
 use crate::quotas::catalogue_in;
 use crate::sales::sales_in;
-use base_sorted::rises;
+use base_tables::rises;
 use file_rows::{ShopRow, TableRows};
 use model_rules::FileRows;
 use std::alloc::Global;

@@ -1,7 +1,7 @@
 //! What uses each quota, and what is used of each voucher.
 
 ghost use Rattle.std.specs.Prelude.{◌≡◌, ◌↔◌, map, IfOk, IfErr, OnOk, IsTrue};
-ghost use Rattle.base_sorted.specs.Tables.{AreInOrder};
+ghost use Rattle.base_tables.specs.Tables.{AreInOrder};
 ghost use Rattle.file_meaning.specs.Rows.{usage_in};
 ghost use Rattle.model_rules.specs.Tests.{TellsWhether};
 ghost use Rattle.file_rebuild.specs.Arranged.{beside, count_in, spending, usages_beside, uses_beside, AreExitsPaired, AreSpentsPaired, AreCountsPaired, CountsRise};
@@ -9,7 +9,7 @@ ghost use Rattle.file_rebuild.specs.declared.error.ArrangeError.TheVariants.{Ord
 
 use crate::error::ArrangeError;
 use crate::members::both;
-use base_sorted::rises;
+use base_tables::rises;
 use file_rows::{CountRow, ExitRow, OtherRows, SpentRow, VoucherRow};
 use model_rows::{QuotaCount, Usage, VoucherCount};
 use std::alloc::{AllocError, Global};

@@ -1,14 +1,14 @@
 //! Check-in lists with their items.
 
 ghost use Rattle.std.specs.Prelude.{◌≡◌, ◌↔◌, IfOk, IfErr, OnOk, IsTrue, IsPermutation, map};
-ghost use Rattle.base_sorted.specs.Tables.{AreInOrder};
+ghost use Rattle.base_tables.specs.Tables.{AreInOrder};
 ghost use Rattle.file_meaning.specs.Links.{all_links};
 ghost use Rattle.file_rebuild.specs.Arranged.{beside, list_having, list_link, list_of};
 ghost use Rattle.file_rebuild.specs.declared.error.ArrangeError.TheVariants.{Order};
 
 use crate::error::ArrangeError;
 use crate::members::members_in;
-use base_sorted::{Ids, rises};
+use base_tables::{Ids, rises};
 use file_rows::{DoorRows, ListRow};
 use model_rows::{Checkin, CheckinList};
 use std::alloc::{AllocError, Global};

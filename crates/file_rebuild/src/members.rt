@@ -1,13 +1,13 @@
 //! The members of rows, as links tell them.
 
 ghost use Rattle.std.specs.Prelude.{◌≡◌, ◌↔◌, ◌++◌, [], ◌∷◌, IfOk, OnOk, IsTrue, IsPermutation, List, map, flat_map, length};
-ghost use Rattle.base_sorted.specs.Rising.{rising};
-ghost use Rattle.base_sorted.specs.Tables.{AreInOrder};
+ghost use Rattle.base_tables.specs.Rising.{rising};
+ghost use Rattle.base_tables.specs.Tables.{AreInOrder};
 ghost use Rattle.file_meaning.specs.Links.{Link};
 ghost use Rattle.file_rebuild.specs.Members.{members_of, links_of, AreTold};
 
 use crate::links::Linking;
-use base_sorted::{Ids, Row, place_of};
+use base_tables::{Ids, Row, place_of};
 use std::alloc::{AllocError, Global};
 
 // No members yet for each id.

@@ -8,7 +8,7 @@ ghost use Rattle.file_rebuild.specs.declared.error.ArrangeError.TheVariants.{Ord
 use crate::error::ArrangeError;
 use crate::members::both;
 use crate::values::values_in;
-use base_sorted::rises;
+use base_tables::rises;
 use base_values::Cents;
 use file_rows::{DiscountRow, PositionRow};
 use model_rows::OrderPos;

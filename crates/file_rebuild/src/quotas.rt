@@ -2,13 +2,13 @@
 
 ghost use Rattle.std.specs.Prelude.{◌≡◌, ◌↔◌, IfOk, IfErr, OnOk, IsTrue, map};
 ghost use Rattle.std.specs.List.{zip};
-ghost use Rattle.base_sorted.specs.Tables.{AreInOrder};
+ghost use Rattle.base_tables.specs.Tables.{AreInOrder};
 ghost use Rattle.file_rebuild.specs.Arranged.{is_any, quota_having, quotas_arranged, AreLinksOfQuotas};
 ghost use Rattle.file_rebuild.specs.declared.error.ArrangeError.TheVariants.{Order};
 
 use crate::error::ArrangeError;
 use crate::members::{both, members_in};
-use base_sorted::{Ids, rises};
+use base_tables::{Ids, rises};
 use file_rows::{CatalogueRows, QuotaRow};
 use model_catalogue::{Item, Quota, Variation};
 use std::alloc::{AllocError, Global};

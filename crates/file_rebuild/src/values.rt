@@ -1,10 +1,10 @@
 //! Amounts that stand in a table of their own, each under the id of the row that has it.
 
 ghost use Rattle.std.specs.Prelude.{◌≡◌, ◌↔◌, ℕ, count_by, is_some, option_map, IfOk, IsTrue, IsPermutation};
-ghost use Rattle.base_sorted.specs.Tables.{AreInOrder, row_at};
+ghost use Rattle.base_tables.specs.Tables.{AreInOrder, row_at};
 ghost use Rattle.file_rebuild.specs.Members.{each_value, value_links, values_of};
 
-use base_sorted::{Row, place_of};
+use base_tables::{Row, place_of};
 use base_values::Cents;
 use file_rows::{BudgetRow, DiscountRow};
 use std::alloc::{AllocError, Global};

@@ -1,6 +1,6 @@
 //! Rows of the file that are no rows of the box office.
 
-use base_sorted::Row;
+use base_tables::Row;
 use base_values::{Cents, Moment, PriceMode, Size, Slug, Text, Uses};
 use model_answers::Kept;
 use model_catalogue::Product;

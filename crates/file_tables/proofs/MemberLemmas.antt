@@ -3,8 +3,8 @@ use Rattle.std.proofs.Common.{◌≡◌, ℕ, ◌+◌, ◌==◌, ◌&&◌, Bool,
 use Rattle.std.specs.List.Sorted.{IsPermutation}
 use Rattle.std.proofs.lemmas.List.Sorted.{length_permutation, list_any-IsPermutation}
 use Rattle.sqlite.specs.State.{State}
-use Rattle.base_sorted.specs.Rising.{rising}
-use Rattle.base_sorted.proofs.RisingLemmas.{has-rising, rising_in_order}
+use Rattle.base_tables.specs.Rising.{rising}
+use Rattle.base_tables.proofs.RisingLemmas.{has-rising, rising_in_order}
 use Rattle.base_index.proofs.Sorted.{same_ids}
 use Rattle.model_catalogue.specs.declared.rows.Quota.{Quota}
 use Rattle.model_rows.specs.declared.rows.CheckinList.{CheckinList}

@@ -3,7 +3,7 @@ use Rattle.std.proofs.Common.{◌≡◌, ◌==◌, Bool, List, ℕ, false, drop,
 use Rattle.sqlite_value.specs.Order.{Row}
 use Rattle.sqlite.specs.Listing.{understood}
 use Rattle.sqlite.specs.State.{State, Executes}
-use Rattle.base_sorted.specs.Tables.{row_at}
+use Rattle.base_tables.specs.Tables.{row_at}
 use Rattle.file_schema.specs.Described.{table_of, insert_text, update_text, delete_text}
 use Rattle.file_schema.specs.Descriptions.{order_positions}
 use Rattle.file_schema.specs.Tables.{schema}

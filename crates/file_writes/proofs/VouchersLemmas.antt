@@ -14,7 +14,7 @@ use Rattle.sqlite.specs.Values.{or_null}
 use Rattle.sqlite.specs.Listing.{understood}
 use Rattle.sqlite.specs.State.{State, Executes}
 use Rattle.sqlite.proofs.Callers.{IsPlain, command_of}
-use Rattle.base_sorted.specs.Tables.{sum_at}
+use Rattle.base_tables.specs.Tables.{sum_at}
 use Rattle.file_schema.specs.Tables.{schema, vouchers_table}
 use Rattle.file_schema.specs.Parts.{row_shown, with_rows, without}
 use Rattle.file_schema.specs.Shapes.{places, over, plainly, equals, delete_keyed}

@@ -2,7 +2,7 @@
 
 ghost use Rattle.std.specs.Prelude.{◌≡◌, is_some, IfOk, OnOk};
 ghost use Rattle.file_schema.specs.Inside.{StaysInside};
-ghost use Rattle.base_sorted.specs.Tables.{row_at};
+ghost use Rattle.base_tables.specs.Tables.{row_at};
 ghost use Rattle.file_rows.specs.Rows.{position_row};
 ghost use Rattle.file_rows.specs.Changes.{Changes, head_of_position, with_position, without_position};
 ghost use Rattle.file_rows.specs.Tables.{Tables, Holds};

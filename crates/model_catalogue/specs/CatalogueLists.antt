@@ -3,7 +3,7 @@ use Rattle.std.specs.Prelude.{ℕ, Bool, true, false, ◌&&◌, List, filter, �
 use Rattle.std.specs.List.{list_any}
 use Rattle.std.specs.Option.{ok_or}
 use Rattle.base_values.specs.Deciding.{◌>>=◌, ◌>>◌, check, refuse_if}
-use Rattle.base_sorted.specs.Tables.{row_at}
+use Rattle.base_tables.specs.Tables.{row_at}
 use Rattle.model_catalogue.specs.declared.rows.Item.{Item}
 use Rattle.model_catalogue.specs.declared.rows.Variation.{Variation}
 use Rattle.model_catalogue.specs.declared.rows.Quota.{Quota}

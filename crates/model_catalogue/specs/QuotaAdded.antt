@@ -3,8 +3,8 @@ use Rattle.std.specs.Prelude.{ℕ, Bool, false, ◌&&◌, ◌||◌, not, List, O
 use Rattle.std.specs.List.{filter_map, list_all}
 use Rattle.std.specs.Option.{is_some}
 use Rattle.base_values.specs.Deciding.{◌>>◌, check}
-use Rattle.base_sorted.specs.Tables.{has}
-use Rattle.base_sorted.specs.Rising.{rising}
+use Rattle.base_tables.specs.Tables.{has}
+use Rattle.base_tables.specs.Rising.{rising}
 use Rattle.model_catalogue.specs.declared.rows.Item.{Item}
 use Rattle.model_catalogue.specs.declared.rows.Variation.{Variation}
 use Rattle.model_catalogue.specs.declared.rows.Quota.{Quota}

@@ -10,7 +10,7 @@ ghost use Rattle.model_catalogue.specs.FitRequests.{IsFitVariation, IsFitItem, I
 ghost use Rattle.model_catalogue.specs.Limits.{last_id};
 
 use crate::rows::{Item, Quota, Variation};
-use base_sorted::Ids;
+use base_tables::Ids;
 use base_values::{Cents, Known, List, Size, Text};
 use std::alloc::{AllocError, Global};
 

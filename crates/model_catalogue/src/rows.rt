@@ -4,7 +4,7 @@ ghost use Rattle.std.specs.Prelude.{◌≡◌, IfOk};
 ghost use Rattle.model_catalogue.specs.Member.{is_in};
 ghost use Rattle.model_catalogue.specs.Kept.{quota_weight};
 
-use base_sorted::{Ids, Row};
+use base_tables::{Ids, Row};
 use base_values::{Cents, List, Size, Text};
 use std::alloc::{AllocError, Global};
 

@@ -3,7 +3,7 @@
 ghost use Rattle.std.specs.Prelude.{◌≡◌, ◌-◌, ◌*◌, length, map, IfOk, IsTrue};
 ghost use Rattle.model_commands.specs.Pages.{is_page, page_rows};
 
-use base_sorted::{Row, Sparse};
+use base_tables::{Row, Sparse};
 use std::alloc::{AllocError, Global};
 
 /// How many rows a page has at most.

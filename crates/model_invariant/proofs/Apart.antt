@@ -3,7 +3,7 @@ use Rattle.std.proofs.Common.{◌≡◌, ℕ, Bool, true, false, ◌&&◌, not, 
 use Rattle.std.specs.Prelude.{◌||◌}
 use Rattle.std.specs.List.{list_any, AllByRecursion}
 use Rattle.std.proofs.lemmas.Bool.Decides.{nat_tests}
-use Rattle.base_sorted.specs.Tables.{with_row}
+use Rattle.base_tables.specs.Tables.{with_row}
 use Rattle.model_rows.proofs.EachRow.{with_row_cases}
 
 -- none is alike to one behind it

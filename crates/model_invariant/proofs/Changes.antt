@@ -3,9 +3,9 @@ use Rattle.std.proofs.Common.{◌≡◌, ℕ, ◌≢◌, ◌⊎◌, inl, inr, Bo
 use Rattle.std.specs.Prelude.{◌||◌, is_some, if◌then◌else◌}
 use Rattle.std.specs.List.{list_any, AllByRecursion}
 use Rattle.std.proofs.lemmas.Bool.Decides.{eqb_tells}
-use Rattle.base_sorted.specs.Tables.{row_at, without_row}
+use Rattle.base_tables.specs.Tables.{row_at, without_row}
 use Rattle.base_values.specs.Texts.{same_text}
-use Rattle.base_sorted.proofs.Edits.{row_at-without_row}
+use Rattle.base_tables.proofs.Edits.{row_at-without_row}
 use Rattle.model_catalogue.specs.declared.rows.Item.{Item}
 use Rattle.model_catalogue.specs.declared.rows.ItemRows.{ItemRows}
 use Rattle.model_catalogue.specs.declared.rows.Product.{Product}

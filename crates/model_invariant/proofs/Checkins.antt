@@ -2,8 +2,8 @@
 use Rattle.std.proofs.Common.{◌≡◌, ℕ, ◌<◌, Bool, true, false, eqb, List, [], ◌∷◌, Option, Some, refl, ap, ◌∙◌, subst, sym, arith}
 use Rattle.std.specs.Prelude.{is_some, if◌then◌else◌}
 use Rattle.std.specs.List.{list_any, AllByRecursion}
-use Rattle.base_sorted.specs.Tables.{row_at, with_row}
-use Rattle.base_sorted.proofs.Edits.{row_at-with_row}
+use Rattle.base_tables.specs.Tables.{row_at, with_row}
+use Rattle.base_tables.proofs.Edits.{row_at-with_row}
 use Rattle.model_catalogue.specs.declared.rows.Item.{Item}
 use Rattle.model_rows.specs.declared.rows.OrderPos.{OrderPos}
 use Rattle.model_rows.specs.declared.rows.CheckinList.{CheckinList}

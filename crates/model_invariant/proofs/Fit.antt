@@ -2,8 +2,8 @@
 use Rattle.std.proofs.Common.{◌≡◌, ℕ, ◌≢◌, ◌⊎◌, inl, inr, true, false, eqb, cond, List, Option, Some, None, refl, sym, ap, ◌∙◌, subst}
 use Rattle.std.specs.List.{AllByRecursion}
 use Rattle.std.proofs.lemmas.Bool.Decides.{eqb_tells}
-use Rattle.base_sorted.specs.Tables.{row_at}
-use Rattle.base_sorted.proofs.Edits.{row_at-with_row, row_at-without_row}
+use Rattle.base_tables.specs.Tables.{row_at}
+use Rattle.base_tables.proofs.Edits.{row_at-with_row, row_at-without_row}
 use Rattle.model_catalogue.specs.declared.rows.Product.{Product}
 use Rattle.model_catalogue.specs.declared.rows.Quota.{Quota}
 use Rattle.model_catalogue.specs.CatalogueLists.{CatalogueLists, quota_at}

@@ -4,7 +4,7 @@ use Rattle.std.specs.Prelude.{IfSome, if◌then◌else◌}
 use Rattle.std.specs.List.{AllByRecursion}
 use Rattle.std.proofs.lemmas.Bool.Decides.{nat_tests}
 use Rattle.std.proofs.lemmas.List.Sums.{sum_by-cons}
-use Rattle.base_sorted.specs.Tables.{row_at}
+use Rattle.base_tables.specs.Tables.{row_at}
 use Rattle.model_catalogue.specs.declared.rows.Product.{Product}
 use Rattle.model_rows.specs.declared.rows.CartPos.{CartPos}
 use Rattle.model_rows.specs.declared.rows.OrderPos.{OrderPos}

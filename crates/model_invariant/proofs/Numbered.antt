@@ -3,9 +3,9 @@ use Rattle.std.proofs.Common.{◌≡◌, ℕ, ◌+◌, ◌<◌, ◌≤◌, List,
 use Rattle.std.specs.Prelude.{true}
 use Rattle.std.specs.List.{AllByRecursion}
 use Rattle.std.proofs.lemmas.Bool.Decides.{nat_tests}
-use Rattle.base_sorted.specs.Tables.{row_at, with_row, without_row, InOrderFrom}
-use Rattle.base_sorted.proofs.Edits.{length-with_row, length-without_row, row_at_above}
-use Rattle.base_sorted.proofs.Places.{with_row_in_order, without_row_in_order}
+use Rattle.base_tables.specs.Tables.{row_at, with_row, without_row, InOrderFrom}
+use Rattle.base_tables.proofs.Edits.{length-with_row, length-without_row, row_at_above}
+use Rattle.base_tables.proofs.Places.{with_row_in_order, without_row_in_order}
 use Rattle.model_catalogue.specs.Limits.{most_rows, last_id, takes_row, takes_rows}
 use Rattle.model_rows.proofs.EachRow.{all_weaker, all-with_row, all-without_row, all-row_at, key-row_at, found_below}
 use Rattle.model_invariant.specs.Ids.{AreNumbered}

@@ -4,8 +4,8 @@ use Rattle.std.specs.Prelude.{if◌then◌else◌, filter}
 use Rattle.std.specs.List.{AllByRecursion, list_any}
 use Rattle.std.proofs.lemmas.Bool.Decides.{nat_tests}
 use Rattle.std.proofs.lemmas.List.Sums.{sum_by-cons}
-use Rattle.base_sorted.specs.Tables.{AreInOrder}
-use Rattle.base_sorted.proofs.Edits.{row_at-with_row}
+use Rattle.base_tables.specs.Tables.{AreInOrder}
+use Rattle.base_tables.proofs.Edits.{row_at-with_row}
 use Rattle.model_catalogue.specs.declared.rows.Quota.{Quota}
 use Rattle.model_catalogue.specs.CatalogueLists.{quota_at}
 use Rattle.model_catalogue.specs.Member.{is_in}

@@ -2,7 +2,7 @@
 use Rattle.std.proofs.Common.{◌≡◌, ℕ, ◌^◌, ◌<◌, Bool, true, false, not, ◌||◌, List, [], ◌∷◌, nat_eq, refl, sym, ◌∙◌, subst, arith}
 use Rattle.std.specs.List.{ends_with, AllByRecursion}
 use Rattle.std.specs.Cmp.Lexicographic.{bytes_decides}
-use Rattle.base_sorted.specs.Tables.{AreInOrder, with_row, without_row}
+use Rattle.base_tables.specs.Tables.{AreInOrder, with_row, without_row}
 use Rattle.base_values.specs.Texts.{same_text}
 use Rattle.model_rows.specs.declared.rows.Voucher.{Voucher}
 use Rattle.model_rows.specs.Lists.{Lists}

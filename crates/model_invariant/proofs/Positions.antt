@@ -4,8 +4,8 @@ use Rattle.std.specs.Prelude.{is_some}
 use Rattle.std.specs.List.{AllByRecursion}
 use Rattle.std.proofs.lemmas.Bool.Decides.{nat_tests, eqb_tells}
 use Rattle.std.proofs.lemmas.List.Elements.{filter-append}
-use Rattle.base_sorted.specs.Tables.{row_at, with_row}
-use Rattle.base_sorted.proofs.Edits.{row_at-with_row}
+use Rattle.base_tables.specs.Tables.{row_at, with_row}
+use Rattle.base_tables.proofs.Edits.{row_at-with_row}
 use Rattle.model_rows.specs.declared.rows.Order.{Order}
 use Rattle.model_rows.specs.declared.rows.OrderPos.{OrderPos}
 use Rattle.model_rows.specs.declared.changes.Change.TheVariants.{PutOrder}

@@ -7,7 +7,7 @@ use Rattle.std.proofs.lemmas.Bool.Decides.{nat_tests, eqb_tells}
 use Rattle.hex.specs.Hex.{encode_lower}
 use Rattle.base_values.specs.declared.draw.Draw.{Draw}
 use Rattle.base_values.specs.Secrets.{secret}
-use Rattle.base_sorted.specs.Tables.{row_at}
+use Rattle.base_tables.specs.Tables.{row_at}
 use Rattle.base_values.specs.Texts.{same_text}
 use Rattle.model_rows.specs.declared.rows.Order.{Order}
 use Rattle.model_rows.specs.declared.rows.OrderPos.{OrderPos}

@@ -2,8 +2,8 @@
 use Rattle.std.proofs.Common.{◌≡◌, ℕ, true, false, eqb, cond, List, Option, Some, None, refl, ap, ◌∙◌}
 use Rattle.std.specs.Prelude.{is_some}
 use Rattle.std.specs.List.{AllByRecursion}
-use Rattle.base_sorted.specs.Tables.{row_at, with_row, without_row}
-use Rattle.base_sorted.proofs.Edits.{row_at-without_row}
+use Rattle.base_tables.specs.Tables.{row_at, with_row, without_row}
+use Rattle.base_tables.proofs.Edits.{row_at-without_row}
 use Rattle.model_rows.specs.declared.rows.Voucher.{Voucher}
 use Rattle.model_rows.specs.declared.rows.Waiting.{Waiting}
 use Rattle.model_rows.specs.Conditions.{names}

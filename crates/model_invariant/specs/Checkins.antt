@@ -1,7 +1,7 @@
 -- The door: lists, by which tickets are checked in, and check-ins.
 use Rattle.std.specs.Prelude.{◌≡◌, ℕ, Bool, true, false, ◌&&◌, ◌==◌, is_some, List, [], ◌∷◌, Option, Some, None}
 use Rattle.std.specs.List.{AllByRecursion}
-use Rattle.base_sorted.specs.Tables.{row_at, AreInOrder}
+use Rattle.base_tables.specs.Tables.{row_at, AreInOrder}
 use Rattle.base_values.specs.Texts.{same_text}
 use Rattle.model_catalogue.specs.declared.rows.Item.{Item}
 use Rattle.model_rows.specs.declared.rows.OrderPos.{OrderPos}

@@ -1,7 +1,7 @@
 -- The ids of the rows of each table.
 use Rattle.std.specs.Prelude.{ℕ, ◌<◌, ◌≤◌, List}
 use Rattle.std.specs.List.{AllByRecursion}
-use Rattle.base_sorted.specs.Tables.{AreInOrder}
+use Rattle.base_tables.specs.Tables.{AreInOrder}
 use Rattle.model_rows.specs.declared.rows.NextIds.{NextIds}
 use Rattle.model_rows.specs.Lists.{Lists}
 

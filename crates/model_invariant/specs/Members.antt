@@ -1,7 +1,7 @@
 -- The members of quotas.
 use Rattle.std.specs.Prelude.{◌≡◌, true}
 use Rattle.std.specs.List.{AllByRecursion}
-use Rattle.base_sorted.specs.Tables.{AreInOrder}
+use Rattle.base_tables.specs.Tables.{AreInOrder}
 use Rattle.model_catalogue.specs.declared.rows.Quota.{Quota}
 use Rattle.model_catalogue.specs.CatalogueLists.{CatalogueLists}
 use Rattle.model_catalogue.specs.QuotaAdded.{items_stand, variations_stand, variations_fit, items_fit}

@@ -1,7 +1,7 @@
 -- Items that are sold by their variations alone, and how variations, products and vouchers name them.
 use Rattle.std.specs.Prelude.{◌≡◌, ℕ, Bool, true, false, not, ◌||◌, is_some, is_none, List, Option, Some, None}
 use Rattle.std.specs.List.{AllByRecursion}
-use Rattle.base_sorted.specs.Tables.{row_at}
+use Rattle.base_tables.specs.Tables.{row_at}
 use Rattle.model_catalogue.specs.declared.rows.Item.{Item}
 use Rattle.model_catalogue.specs.declared.rows.Product.{Product}
 use Rattle.model_catalogue.specs.declared.rows.Variation.{Variation}

@@ -4,9 +4,9 @@ use Rattle.std.specs.Prelude.{◌||◌, if◌then◌else◌, filter, is_some, If
 use Rattle.std.specs.List.{AllByRecursion, list_any, list_all}
 use Rattle.std.proofs.lemmas.Bool.Decides.{nat_tests}
 use Rattle.std.proofs.lemmas.List.Sums.{sum_by-append, sum_by-cons, sum_by-le-sum_by}
-use Rattle.base_sorted.specs.Tables.{row_at, AreInOrder, sum_at}
-use Rattle.base_sorted.proofs.Edits.{row_at-with_row, sum_by-with_row}
-use Rattle.base_sorted.proofs.Places.{with_row_in_order}
+use Rattle.base_tables.specs.Tables.{row_at, AreInOrder, sum_at}
+use Rattle.base_tables.proofs.Edits.{row_at-with_row, sum_by-with_row}
+use Rattle.base_tables.proofs.Places.{with_row_in_order}
 use Rattle.model_rows.specs.declared.rows.Order.{Order}
 use Rattle.model_rows.specs.declared.rows.OrderPos.{OrderPos}
 use Rattle.model_rows.specs.declared.rows.Voucher.{Voucher}

@@ -2,7 +2,7 @@
 use Rattle.std.proofs.Common.{◌≡◌, ℕ, suc, ◌+◌, ◌<◌, ◌≤◌, ◌≢◌, ◌⊎◌, inl, inr, Bool, true, false, ◌||◌, cond, eqb, leb, List, [], ◌∷◌, Some, None, refl, sym, ap, ◌∙◌, subst, arith}
 use Rattle.std.specs.List.{AllByRecursion, list_any}
 use Rattle.std.proofs.lemmas.Bool.Decides.{nat_tests, leb_tells, eqb_tells}
-use Rattle.base_sorted.specs.Tables.{row_at, with_row, without_row}
+use Rattle.base_tables.specs.Tables.{row_at, with_row, without_row}
 
 -- neither of two
 pub neither_first : (a b : Bool) → (a || b) ≡ false → a ≡ false

@@ -3,9 +3,9 @@ use Rattle.std.proofs.Common.{◌≡◌, ℕ, ◌+◌, ◌≤◌, ◌≢◌, ◌
 use Rattle.std.specs.Prelude.{if◌then◌else◌}
 use Rattle.std.proofs.lemmas.Bool.Decides.{nat_tests, eqb_tells}
 use Rattle.std.proofs.lemmas.List.Sums.{sum_by-cons, sum_by-le-sum_by}
-use Rattle.base_sorted.specs.Tables.{row_at, sum_at, InOrderFrom, AreInOrder}
-use Rattle.base_sorted.proofs.Edits.{row_at-with_row}
-use Rattle.base_sorted.proofs.OneId.{sum_one}
+use Rattle.base_tables.specs.Tables.{row_at, sum_at, InOrderFrom, AreInOrder}
+use Rattle.base_tables.proofs.Edits.{row_at-with_row}
+use Rattle.base_tables.proofs.OneId.{sum_one}
 use Rattle.model_catalogue.specs.declared.rows.Quota.{Quota}
 use Rattle.model_catalogue.specs.Member.{is_in}
 use Rattle.model_rows.specs.declared.rows.Checkin.{Checkin}

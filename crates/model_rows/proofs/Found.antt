@@ -3,7 +3,7 @@ use Rattle.std.proofs.Common.{◌≡◌, ℕ, ◌+◌, ◌≤◌, Bool, true, fa
 use Rattle.std.specs.Prelude.{find}
 use Rattle.std.specs.List.{AllByRecursion}
 use Rattle.std.proofs.lemmas.Bool.Decides.{nat_tests}
-use Rattle.base_sorted.specs.Tables.{row_at, InOrderFrom}
+use Rattle.base_tables.specs.Tables.{row_at, InOrderFrom}
 use Rattle.model_rows.proofs.EachRow.{all_weaker, all_both}
 
 module _ {T : Type 0} (key : T → ℕ) (test : T → Bool) where

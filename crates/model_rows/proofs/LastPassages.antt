@@ -2,7 +2,7 @@
 use Rattle.std.proofs.Common.{◌≡◌, ℕ, Bool, true, false, not, cond, eqb, List, [], ◌∷◌, filter, Option, Some, None, refl, sym, ap, ◌∙◌, arith}
 use Rattle.std.specs.Prelude.{if◌then◌else◌}
 use Rattle.std.proofs.lemmas.Bool.Decides.{nat_tests}
-use Rattle.base_sorted.specs.Tables.{row_at, with_row}
+use Rattle.base_tables.specs.Tables.{row_at, with_row}
 use Rattle.model_rows.specs.declared.rows.Checkin.{Checkin}
 use Rattle.model_rows.specs.declared.passages.Passage.{Passage}
 use Rattle.model_rows.specs.Passages.{is_exit, passage, is_later, later, last_after, is_exit_if, is_at, last_at, is_out}

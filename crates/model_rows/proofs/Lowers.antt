@@ -5,8 +5,8 @@ use Rattle.std.specs.Prelude.{◌||◌, if◌then◌else◌}
 use Rattle.std.specs.List.{list_any}
 use Rattle.std.proofs.lemmas.Bool.Decides.{nat_tests}
 use Rattle.std.proofs.lemmas.List.Sums.{sum_by-cons}
-use Rattle.base_sorted.specs.Tables.{without_row}
-use Rattle.base_sorted.proofs.Edits.{row_at-without_row}
+use Rattle.base_tables.specs.Tables.{without_row}
+use Rattle.base_tables.proofs.Edits.{row_at-without_row}
 use Rattle.model_catalogue.specs.declared.rows.Quota.{Quota}
 use Rattle.model_catalogue.specs.declared.rows.Variation.{Variation}
 use Rattle.model_catalogue.specs.CatalogueLists.{CatalogueLists}

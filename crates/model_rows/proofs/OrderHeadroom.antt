@@ -4,8 +4,8 @@ use Rattle.std.specs.Prelude.{◌||◌, not, if◌then◌else◌, is_some, filte
 use Rattle.std.specs.List.{AllByRecursion, list_any, list_all}
 use Rattle.std.proofs.lemmas.Bool.Decides.{nat_tests}
 use Rattle.std.proofs.lemmas.List.Sums.{sum_by-cons}
-use Rattle.base_sorted.specs.Tables.{AreInOrder}
-use Rattle.base_sorted.proofs.Edits.{row_at-with_row, sum_by-with_row}
+use Rattle.base_tables.specs.Tables.{AreInOrder}
+use Rattle.base_tables.proofs.Edits.{row_at-with_row, sum_by-with_row}
 use Rattle.model_rows.specs.declared.rows.Voucher.{Voucher}
 use Rattle.model_rows.specs.declared.rows.Order.{Order}
 use Rattle.model_rows.specs.declared.rows.OrderPos.{OrderPos}

@@ -4,8 +4,8 @@ use Rattle.std.specs.Prelude.{if◌then◌else◌}
 use Rattle.std.specs.List.{AllByRecursion}
 use Rattle.std.proofs.lemmas.Bool.Decides.{nat_tests}
 use Rattle.std.proofs.lemmas.List.Sums.{sum_by-cons}
-use Rattle.base_sorted.specs.Tables.{row_at, sum_at, InOrderFrom, AreInOrder}
-use Rattle.base_sorted.proofs.Edits.{row_at-with_row, row_at_above, sum_by-with_row}
+use Rattle.base_tables.specs.Tables.{row_at, sum_at, InOrderFrom, AreInOrder}
+use Rattle.base_tables.proofs.Edits.{row_at-with_row, row_at_above, sum_by-with_row}
 use Rattle.model_catalogue.specs.declared.rows.Quota.{Quota}
 use Rattle.model_rows.specs.declared.rows.Voucher.{Voucher}
 use Rattle.model_rows.specs.declared.rows.Order.{Order}

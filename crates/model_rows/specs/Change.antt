@@ -1,6 +1,6 @@
 -- What changes do to the lists: each puts or drops one row; next ids and the moment are set at the end.
 use Rattle.std.specs.Prelude.{ℕ, List, [], ◌∷◌, map}
-use Rattle.base_sorted.specs.Tables.{with_row, without_row}
+use Rattle.base_tables.specs.Tables.{with_row, without_row}
 use Rattle.model_rows.specs.declared.rows.NextIds.{NextIds}
 use Rattle.model_rows.specs.declared.changes.Change.{Change}
 use Rattle.model_rows.specs.declared.changes.Change.TheVariants.{PutItem, PutVariation, PutQuota, PutVoucher, PutCart, PutOrder, PutPosition, PutWaiting, DropVoucher, DropCart, DropWaiting, PutCheckinList, PutCheckin}

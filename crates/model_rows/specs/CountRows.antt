@@ -2,7 +2,7 @@
 -- vouchers that are gone.
 use Rattle.std.specs.Prelude.{ℕ, Bool, not, ◌&&◌, ◌==◌, is_none, List, map, filter}
 use Rattle.std.specs.List.{list_any}
-use Rattle.base_sorted.specs.Tables.{row_at}
+use Rattle.base_tables.specs.Tables.{row_at}
 use Rattle.model_catalogue.specs.declared.rows.Quota.{Quota}
 use Rattle.model_rows.specs.declared.rows.Usage.{Usage}
 use Rattle.model_rows.specs.declared.rows.Voucher.{Voucher}

@@ -1,6 +1,6 @@
 -- What is known of the lists of every book: ids rise, and none is too long to be counted.
 use Rattle.std.specs.Prelude.{ℕ}
-use Rattle.base_sorted.specs.Tables.{AreKept}
+use Rattle.base_tables.specs.Tables.{AreKept}
 use Rattle.model_rows.specs.Lists.{Lists}
 
 -- in the lists of sales and of the door ids rise, and none of them is longer than this

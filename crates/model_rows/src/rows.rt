@@ -12,7 +12,7 @@ ghost use Rattle.model_rows.specs.Due.{is_due};
 ghost use Rattle.model_rows.specs.CameDue.{is_due_cart, is_due_voucher};
 ghost use Rattle.model_rows.specs.Fits.{has_variation, fits_item};
 
-use base_sorted::{Ids, Row};
+use base_tables::{Ids, Row};
 use base_values::{Cents, List, Moment, PriceMode, Priority, Size, Text, Uses};
 use model_catalogue::{Product, Quota};
 use std::alloc::{AllocError, Global};

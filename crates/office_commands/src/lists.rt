@@ -7,7 +7,7 @@ ghost use Rattle.office_commands.specs.Told.{IfOkIs};
 
 use crate::office::Office;
 use crate::shown_rows::ShownRow;
-use base_sorted::{Row, Sparse};
+use base_tables::{Row, Sparse};
 use base_values::List;
 use book_usage::Book;
 use model_commands::pages::{is_page, page_rows, references, sparse_page_rows};

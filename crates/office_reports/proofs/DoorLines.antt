@@ -1,7 +1,7 @@
 -- The lines of items that are looked up by their numbers.
 use Rattle.std.proofs.Common.{◌≡◌, ℕ, Bool, true, false, cond, List, [], ◌∷◌, ◌++◌, map, filter, Some, refl, ap, ap₂}
 use Rattle.std.specs.List.{AllByRecursion, concat}
-use Rattle.base_sorted.specs.Tables.{AreInOrder}
+use Rattle.base_tables.specs.Tables.{AreInOrder}
 use Rattle.model_catalogue.specs.CatalogueLists.{item_at}
 use Rattle.model_catalogue.specs.declared.rows.Item.{Item}
 use Rattle.model_rows.specs.declared.rows.CheckinList.{CheckinList}

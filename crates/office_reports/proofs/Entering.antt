@@ -4,8 +4,8 @@ use Rattle.std.specs.Prelude.{if◌then◌else◌, ◌&&◌, ◌||◌}
 use Rattle.std.proofs.lemmas.Bool.Decides.{nat_tests}
 use Rattle.std.proofs.lemmas.List.{drop_more, drop_all, map-id}
 use Rattle.std.proofs.lemmas.List.Sums.{sum_by-cons}
-use Rattle.base_sorted.specs.Tables.{row_at, InOrderFrom, AreInOrder, IsPlace}
-use Rattle.base_sorted.proofs.Places.{filter_in_order}
+use Rattle.base_tables.specs.Tables.{row_at, InOrderFrom, AreInOrder, IsPlace}
+use Rattle.base_tables.proofs.Places.{filter_in_order}
 use Rattle.model_catalogue.specs.declared.rows.Item.{Item}
 use Rattle.model_rows.specs.declared.rows.Checkin.{Checkin}
 use Rattle.model_rows.specs.declared.rows.CheckinList.{CheckinList}
@@ -20,7 +20,7 @@ use Rattle.office_reports.specs.declared.entries.ItemEntries.{ItemEntries}
 use Rattle.office_reports.specs.Entered.{visitors_come, entries_of, item_entries, items_on}
 use Rattle.office_reports.specs.Counted.{all_entries}
 use Rattle.office_reports.specs.Counted.{AllAtMost, AreAtMost, position_counted, counted_all, counted_where, one_if, item_unvisited, with_ticket}
-use Rattle.base_sorted.proofs.Mapped.{map_two, map_absent, map_set, mapped_in_order}
+use Rattle.base_tables.proofs.Mapped.{map_two, map_absent, map_set, mapped_in_order}
 
 at_most_weaker : (n m : ℕ) (e : Entries) → n ≤ m → AreAtMost n e → AreAtMost m e
 at_most_weaker n m e le few = record { positions = omega (arith, le, few.positions); entered = omega (arith, le, few.entered); inside = omega (arith, le, few.inside) }

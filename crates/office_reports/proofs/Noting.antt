@@ -5,7 +5,7 @@ use Rattle.std.proofs.lemmas.Bool.Decides.{nat_tests}
 use Rattle.std.proofs.lemmas.List.{drop_more, drop_all, map-id}
 use Rattle.std.proofs.lemmas.List.Sums.{sum_by-cons}
 use Rattle.base_values.specs.Money.{last_cents}
-use Rattle.base_sorted.specs.Tables.{row_at, InOrderFrom, AreInOrder, IsPlace}
+use Rattle.base_tables.specs.Tables.{row_at, InOrderFrom, AreInOrder, IsPlace}
 use Rattle.model_catalogue.specs.declared.rows.Item.{Item}
 use Rattle.model_rows.specs.declared.rows.Status.{Status}
 use Rattle.model_rows.specs.declared.rows.Status.TheVariants.{Pending, Paid, Expired, Cancelled}
@@ -17,7 +17,7 @@ use Rattle.office_reports.specs.declared.sales.Sales.{Sales}
 use Rattle.office_reports.specs.declared.sales.ItemSales.{ItemSales}
 use Rattle.office_reports.specs.Sold.{all_sales, cents_earned, is_cancelled, is_expired, is_sold, item_sales, sales_of, positions_sold, status_passes}
 use Rattle.office_reports.specs.Noted.{AreFew, IsFew, sale_noted, noted_all, noted_if, unsold, with_sale}
-use Rattle.base_sorted.proofs.Mapped.{map_two, map_absent, map_set, mapped_in_order}
+use Rattle.base_tables.proofs.Mapped.{map_two, map_absent, map_set, mapped_in_order}
 
 few_weaker : (n m : ℕ) (s : Sales) → n ≤ m → IsFew n s → IsFew m s
 few_weaker n m s le few = record { paid = omega (arith, le, few.paid); pending = omega (arith, le, few.pending); expired = omega (arith, le, few.expired); cancelled = omega (arith, le, few.cancelled); amount = omega (arith, le, few.amount) }

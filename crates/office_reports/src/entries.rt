@@ -1,7 +1,7 @@
 //! Who came in by a check-in list, item by item.
 
 ghost use Rattle.std.specs.Prelude.{◌≡◌, ◌≤◌, IfOk, OnOk, filter, length, map};
-ghost use Rattle.base_sorted.specs.Tables.{AreInOrder};
+ghost use Rattle.base_tables.specs.Tables.{AreInOrder};
 ghost use Rattle.model_catalogue.specs.Limits.{most_rows};
 ghost use Rattle.model_invariant.specs.Sound.{IsSound};
 ghost use Rattle.decide_door.specs.Belongs.{is_for};
@@ -9,7 +9,7 @@ ghost use Rattle.decide_door.specs.Status.{has_entered, is_inside};
 ghost use Rattle.office_reports.specs.Counted.{all_entries};
 ghost use Rattle.office_reports.specs.Counted.{AllAtMost, AreAtMost, position_counted, counted_all, counted_next, item_unvisited, with_ticket};
 
-use base_sorted::{Row, place_of};
+use base_tables::{Row, place_of};
 use book_usage::Book;
 use decide_door::belongs;
 use decide_door::listing::is_for;

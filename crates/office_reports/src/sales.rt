@@ -2,13 +2,13 @@
 
 ghost use Rattle.std.specs.Prelude.{◌≡◌, ◌≤◌, IfOk, length, map};
 ghost use Rattle.base_values.specs.Money.{last_cents};
-ghost use Rattle.base_sorted.specs.Tables.{AreInOrder};
+ghost use Rattle.base_tables.specs.Tables.{AreInOrder};
 ghost use Rattle.model_catalogue.specs.Limits.{most_rows};
 ghost use Rattle.model_invariant.specs.Sound.{IsSound};
 ghost use Rattle.office_reports.specs.Sold.{all_sales, nothing};
 ghost use Rattle.office_reports.specs.Noted.{AreFew, IsFew, sale_noted, noted_all, noted_next, unsold, with_sale};
 
-use base_sorted::{Row, place_of};
+use base_tables::{Row, place_of};
 use book_usage::Book;
 use model_catalogue::Item;
 use model_rows::{OrderPos, Status};

@@ -2,7 +2,7 @@
 use Rattle.std.proofs.Common.{◌≡◌, ℕ, ◌+◌, ◌<◌, inl, inr, List, [], ◌∷◌, ◌++◌, append_assoc, append-nil, map, Result, Ok, Err, refl, sym, ap, ◌∙◌, subst, arith}
 use Rattle.std.specs.List.{AllByRecursion}
 use Rattle.std.proofs.lemmas.Bool.Decides.{nat_tests}
-use Rattle.base_sorted.specs.Tables.{with_row}
+use Rattle.base_tables.specs.Tables.{with_row}
 use Rattle.base_values.specs.declared.draw.Draw.{Draw}
 use Rattle.model_catalogue.specs.declared.rows.Item.{Item}
 use Rattle.model_catalogue.specs.declared.rows.ItemRows.{ItemRows}

@@ -4,7 +4,7 @@ use Rattle.std.specs.Prelude.{find, is_some, nat_lt, if◌then◌else◌}
 use Rattle.std.specs.List.{AllByRecursion}
 use Rattle.std.specs.Cmp.Lexicographic.{bytes_decides}
 use Rattle.std.proofs.lemmas.Bool.Decides.{eqb_tells}
-use Rattle.base_sorted.specs.Tables.{row_at, with_row}
+use Rattle.base_tables.specs.Tables.{row_at, with_row}
 use Rattle.base_values.specs.Draws.{IsDraw}
 use Rattle.base_values.specs.Texts.{same_text}
 use Rattle.base_values.specs.declared.draw.Draw.{Draw}

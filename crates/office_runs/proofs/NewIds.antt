@@ -2,9 +2,9 @@
 use Rattle.std.proofs.Common.{◌≡◌, ℕ, ◌+◌, ◌≤◌, ◌<◌, ◌≢◌, ◌⊎◌, inl, inr, Bool, true, false, eqb, List, [], ◌∷◌, length, map, Option, Some, None, Result, Ok, Err, refl, sym, ap, ◌∙◌, subst, arith}
 use Rattle.std.specs.Prelude.{is_some, filter, if◌then◌else◌}
 use Rattle.std.proofs.lemmas.Bool.Decides.{eqb_tells}
-use Rattle.base_sorted.specs.Tables.{row_at, with_row, without_row}
+use Rattle.base_tables.specs.Tables.{row_at, with_row, without_row}
 use Rattle.base_values.specs.declared.draw.Draw.{Draw}
-use Rattle.base_sorted.proofs.Edits.{row_at-with_row, row_at-without_row}
+use Rattle.base_tables.proofs.Edits.{row_at-with_row, row_at-without_row}
 use Rattle.model_catalogue.specs.declared.rows.Item.{Item}
 use Rattle.model_catalogue.specs.declared.rows.ItemRows.{ItemRows}
 use Rattle.model_catalogue.specs.declared.rows.PricedVariation.{PricedVariation}

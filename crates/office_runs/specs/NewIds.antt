@@ -1,6 +1,6 @@
 -- Ids are never used again.
 use Rattle.std.specs.Prelude.{◌≡◌, ℕ, ◌≤◌, ◌<◌, ◌⊎◌, true, is_some, List}
-use Rattle.base_sorted.specs.Tables.{row_at}
+use Rattle.base_tables.specs.Tables.{row_at}
 use Rattle.model_rows.specs.Lists.{State}
 
 -- A table's rows before and after, with its next id before and after: the next id doesn't fall, and a row that stands

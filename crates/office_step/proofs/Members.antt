@@ -1,7 +1,7 @@
 -- The members of a quota that was added stand and fit together.
 use Rattle.std.proofs.Common.{◌≡◌, ℕ, Bool, true, false, Ok, refl, subst}
 use Rattle.std.specs.Prelude.{◌&&◌}
-use Rattle.base_sorted.proofs.RisingLemmas.{rising_in_order}
+use Rattle.base_tables.proofs.RisingLemmas.{rising_in_order}
 use Rattle.model_catalogue.specs.declared.rows.Quota.{Quota}
 use Rattle.model_catalogue.specs.declared.requests.NewQuota.{NewQuota}
 use Rattle.model_catalogue.specs.CatalogueLists.{CatalogueLists}

@@ -1,7 +1,7 @@
 -- The words for a refusal.
 use Rattle.std.specs.Prelude.{ℕ, List, Option, Some, None, if◌then◌else◌, codes}
 use Rattle.serde_json.specs.Data.{Data, string, object, member, no_members}
-use Rattle.base_sorted.specs.Tables.{has}
+use Rattle.base_tables.specs.Tables.{has}
 use Rattle.base_values.specs.declared.answer.Response.{Response}
 use Rattle.model_catalogue.specs.declared.refusal.CatalogueRefusal.{CatalogueRefusal}
 use Rattle.model_catalogue.specs.declared.refusal.CatalogueRefusal.TheVariants as catalogue

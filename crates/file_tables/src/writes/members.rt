@@ -3,7 +3,7 @@
 ghost use Rattle.std.specs.Prelude.{◌≡◌, ◌+◌, ◌==◌, length, map, filter, bytes_eq, IfOk, OnOk};
 ghost use Rattle.file_schema.specs.Inside.{StaysInside};
 ghost use Rattle.model_rows.specs.declared.changes.Change.TheVariants.{PutQuota, PutCheckinList};
-ghost use Rattle.base_sorted.specs.Rising.{rising};
+ghost use Rattle.base_tables.specs.Rising.{rising};
 ghost use Rattle.file_rows.specs.Changes.{Changes, ChangesFit};
 ghost use Rattle.file_rows.specs.Tables.{Tables, Holds};
 ghost use Rattle.file_rows.specs.Written.{WhileInside, WritesInside, NumbersInside};
@@ -13,7 +13,7 @@ ghost use Rattle.file_meaning.specs.Made.{put_links, put_release};
 ghost use Rattle.file_tables.specs.Numbered.{WritesChange};
 ghost use Rattle.file_tables.specs.Steps.{made_each};
 
-use base_sorted::Ids;
+use base_tables::Ids;
 use file_reads::{FindByOwner, members_of};
 use file_rows::{ListItem, Member, QuotaItem, QuotaVariation, ReleaseRow};
 use file_schema::RowError;

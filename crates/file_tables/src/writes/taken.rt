@@ -2,7 +2,7 @@
 
 ghost use Rattle.std.specs.Prelude.{◌≡◌, ◌↔◌, ◌∷◌, true, false, IsTrue, IfSome, IfNone, List};
 ghost use Rattle.std.specs.List.{AllByRecursion};
-ghost use Rattle.base_sorted.specs.Tables.{AreInOrder};
+ghost use Rattle.base_tables.specs.Tables.{AreInOrder};
 ghost use Rattle.model_rows.specs.declared.changes.Change.{Change as Made};
 ghost use Rattle.file_meaning.specs.Lawful.{puts_come_first};
 ghost use Rattle.file_meaning.specs.Stands.{IsRising, MembersRise};

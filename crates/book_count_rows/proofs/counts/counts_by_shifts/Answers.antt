@@ -13,7 +13,7 @@ returns g c =
     let state : State = g.B.Book.state c.args.book.now in
     let changes : List Change = c.args.changes.now.list in
     let ordered : AreOrdered state.lists = c.ids_rise.ensures in
-    let put : c.in_ok-put.put ≡ _ = c.in_ok-put.ensures ∙ ap (λ (l : List Change). Rattle.base_sorted.specs.Rising.rising (flat_map quotas_by l)) c.as_slice-changes.ensures in
+    let put : c.in_ok-put.put ≡ _ = c.in_ok-put.ensures ∙ ap (λ (l : List Change). Rattle.base_tables.specs.Rising.rising (flat_map quotas_by l)) c.as_slice-changes.ensures in
     counts_are state (record { lists = after_all changes state.lists; next = c.args.changes.now.next; moment = c.args.at }) c.new.result c.in_ok-quotas.quotas.items c.as_slice-2.result.now c.in_ok-exits.exits.items c.in_ok-vouchers.vouchers.items c.in_ok-gone.gone.items
     c.new.ensures.quotas c.new.ensures.exits c.new.ensures.vouchers c.new.ensures.gone
     (quotas_walked state changes c.args.changes.now.next c.args.at c.requires.moment c.args.shifts.now ordered c.requires.shifts c.in_ok-quotas.quotas.items c.in_ok-put.put c.in_ok-due.due c.as_slice.result.now put c.in_ok-due.ensures (c.as_slice.ensures ∙ c.in_ok-ids.ensures)

@@ -1,5 +1,5 @@
 use Rattle.std.proofs.Common.{sym}
-use Rattle.base_sorted.proofs.Places.{row_at_place, row_at_gap}
+use Rattle.base_tables.proofs.Places.{row_at_place, row_at_gap}
 use Rattle.book_tally.specs.declared.shifts.QuotaShift.{QuotaShift}
 use Rattle.book_count_rows.proofs.walk.shift_of.Goals as goal
 

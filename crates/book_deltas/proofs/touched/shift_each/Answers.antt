@@ -1,6 +1,6 @@
 use Rattle.std.proofs.Common.{refl, sym, ◌∙◌, take}
 use Rattle.std.proofs.lemmas.List.{take_all}
-use Rattle.base_sorted.specs.Tables.{has}
+use Rattle.base_tables.specs.Tables.{has}
 use Rattle.book_deltas.specs.Shifts.{only}
 use Rattle.book_deltas.proofs.TouchedLemmas.{beside_same, each_more, each_taken}
 use Rattle.book_deltas.proofs.touched.shift_each.Goals as goal

@@ -1,5 +1,5 @@
 use Rattle.std.proofs.Common.{◌≡◌, length, take, vec_capacity}
-use Rattle.base_sorted.specs.Tables.{has}
+use Rattle.base_tables.specs.Tables.{has}
 use Rattle.book_deltas.specs.Shifts.{map_beside, only}
 use Rattle.book_deltas.proofs.touched.shift_each.Given as goal
 

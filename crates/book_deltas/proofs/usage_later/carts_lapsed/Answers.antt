@@ -1,5 +1,5 @@
 use Rattle.std.proofs.Common.{List, ◌∙◌, ap, get_or, sum_by, arith}
-use Rattle.base_sorted.specs.Tables.{row_at}
+use Rattle.base_tables.specs.Tables.{row_at}
 use Rattle.model_rows.specs.declared.rows.CartPos.{CartPos}
 use Rattle.model_rows.specs.Lists.{cart_at}
 use Rattle.model_rows.specs.Usage.{cart_counts}

@@ -1,5 +1,5 @@
 use Rattle.model_rows.specs.Usage.{redeemed}
-use Rattle.base_sorted.proofs.Places.{row_at_gap}
+use Rattle.base_tables.proofs.Places.{row_at_gap}
 use Rattle.book_indexes.proofs.EntryLemmas.{kept_at}
 use Rattle.book_deltas.proofs.Later.{none_stands}
 use Rattle.book_deltas.proofs.usage_later.redeemed_of.Goals as goal

@@ -1,5 +1,5 @@
 use Rattle.std.proofs.Common.{◌∙◌, subst}
-use Rattle.base_sorted.specs.Tables.{AreInOrder}
+use Rattle.base_tables.specs.Tables.{AreInOrder}
 use Rattle.model_catalogue.specs.CatalogueLists.{CatalogueLists}
 use Rattle.book_recount.proofs.CopyLemmas.{copy_is}
 use Rattle.book_recount.proofs.copied.copy_of.Goals as goal

@@ -1,5 +1,5 @@
 use Rattle.std.proofs.Common.{sym, ◌∙◌}
-use Rattle.base_sorted.proofs.Places.{row_at_gap}
+use Rattle.base_tables.proofs.Places.{row_at_gap}
 use Rattle.book_settle.proofs.Puts.{beside_place}
 use Rattle.book_settle.proofs.beside.value_beside.Goals as goal
 

@@ -1,5 +1,5 @@
 use Rattle.std.proofs.Common.{◌≡◌, ◌∷◌, List, map, reverse, refl, sym, ap, ◌∙◌, subst, arith}
-use Rattle.base_sorted.specs.Tables.{AreInOrder, row_at}
+use Rattle.base_tables.specs.Tables.{AreInOrder, row_at}
 use Rattle.model_catalogue.specs.declared.rows.Quota.{Quota}
 use Rattle.model_catalogue.specs.CatalogueLists.{CatalogueLists}
 use Rattle.model_rows.specs.declared.changes.Change.{Change}

@@ -1,5 +1,5 @@
 use Rattle.std.proofs.Common.{◌≡◌, ◌≤◌, ◌-◌, ℕ, None, length, map, reverse, vec_len, vec_capacity}
-use Rattle.base_sorted.specs.Tables.{row_at}
+use Rattle.base_tables.specs.Tables.{row_at}
 use Rattle.model_rows.specs.Change.{after_all}
 use Rattle.model_rows.specs.Weight.{weight}
 use Rattle.book_deltas.specs.Held.{AreHeld}

@@ -1,6 +1,6 @@
 use Rattle.std.proofs.Common.{◌≡◌, ap, ◌∙◌}
 use Rattle.std.specs.List.{list_all}
-use Rattle.base_sorted.specs.Rising.{rising}
+use Rattle.base_tables.specs.Rising.{rising}
 use Rattle.model_catalogue.specs.CatalogueLists.{item_at}
 use Rattle.model_catalogue.specs.QuotaAdded.{items_of, items_fit, is_offered}
 use Rattle.decide_catalogue.proofs.Offered.{offered_is}

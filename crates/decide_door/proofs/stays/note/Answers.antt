@@ -1,6 +1,6 @@
 use Rattle.std.proofs.Common.{◌∙◌, set, sym, ap, subst}
-use Rattle.base_sorted.specs.Tables.{AreInOrder}
-use Rattle.base_sorted.proofs.Places.{row_at_gap}
+use Rattle.base_tables.specs.Tables.{AreInOrder}
+use Rattle.base_tables.proofs.Places.{row_at_gap}
 use Rattle.decide_door.specs.declared.stays.Stay.{Stay}
 use Rattle.decide_door.specs.Stays.{checkin_noted}
 use Rattle.decide_door.proofs.Noting.{noted_here, noted_nowhere, noted_in_order}

@@ -2,7 +2,7 @@ use Rattle.std.proofs.Common.{◌≡◌, ◌∷◌, ◌+◌, sym, ap, ◌∙◌,
 use Rattle.std.proofs.lemmas.List.{drop_more, drop_all, map-id}
 use Rattle.model_rows.specs.declared.rows.Checkin.{Checkin}
 use Rattle.decide_door.specs.Stays.{checkin_noted, noted_all}
-use Rattle.base_sorted.proofs.Mapped.{map_two}
+use Rattle.base_tables.proofs.Mapped.{map_two}
 use Rattle.decide_door.proofs.stays.note_all.Goals as goal
 
 pub loop-checkin-preserved : goal.loop-checkin-preserved

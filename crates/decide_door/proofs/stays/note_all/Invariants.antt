@@ -1,5 +1,5 @@
 use Rattle.std.proofs.Common.{◌≡◌, map, drop}
-use Rattle.base_sorted.specs.Tables.{AreInOrder}
+use Rattle.base_tables.specs.Tables.{AreInOrder}
 use Rattle.decide_door.specs.Stays.{noted_all}
 use Rattle.decide_door.proofs.stays.note_all.Given as goal
 

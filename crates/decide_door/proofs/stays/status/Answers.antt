@@ -1,5 +1,5 @@
 use Rattle.std.proofs.Common.{◌∙◌, map, sym, ap, subst}
-use Rattle.base_sorted.specs.Tables.{AreInOrder}
+use Rattle.base_tables.specs.Tables.{AreInOrder}
 use Rattle.decide_door.specs.declared.stays.Stay.{Stay}
 use Rattle.decide_door.specs.Stays.{noted_all, counts_of}
 use Rattle.decide_door.proofs.Noting.{no_stays_in_order, status_is}

@@ -1,7 +1,7 @@
 use Rattle.std.proofs.Common.{◌≡◌, ℕ, ◌+◌, ◌∷◌, List, drop, length, ◌<◌, rules, sym, ap, ◌∙◌, subst, arith}
 use Rattle.std.specs.Prelude.{find}
 use Rattle.std.proofs.lemmas.List.{drop_more}
-use Rattle.base_sorted.specs.Tables.{AreInOrder}
+use Rattle.base_tables.specs.Tables.{AreInOrder}
 use Rattle.model_catalogue.specs.CatalogueLists.{CatalogueLists}
 use Rattle.model_catalogue.specs.Kept.{quotas_of}
 use Rattle.draft_changes.specs.DraftState.{now}

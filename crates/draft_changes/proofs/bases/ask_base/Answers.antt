@@ -1,5 +1,5 @@
 use Rattle.std.proofs.Common.{◌≡◌, List, sym, ap, ◌∙◌, subst, arith}
-use Rattle.base_sorted.proofs.Places.{insert_is_with_row}
+use Rattle.base_tables.proofs.Places.{insert_is_with_row}
 use Rattle.model_catalogue.specs.CatalogueLists.{CatalogueLists}
 use Rattle.draft_changes.specs.declared.bases.Base.{Base}
 use Rattle.draft_deltas.specs.Counts.{value_at}

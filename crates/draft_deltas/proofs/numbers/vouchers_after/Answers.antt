@@ -1,5 +1,5 @@
 use Rattle.std.proofs.Common.{◌≡◌, length, option_copied, ap, arith}
-use Rattle.base_sorted.specs.Tables.{sum_at}
+use Rattle.base_tables.specs.Tables.{sum_at}
 use Rattle.model_rows.specs.declared.changes.Change.{Change}
 use Rattle.model_rows.specs.Lists.{voucher_at}
 use Rattle.model_rows.specs.Change.{after_change}

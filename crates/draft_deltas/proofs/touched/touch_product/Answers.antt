@@ -1,5 +1,5 @@
 use Rattle.std.proofs.Common.{sym, ap, ◌∙◌}
-use Rattle.base_sorted.specs.Tables.{has}
+use Rattle.base_tables.specs.Tables.{has}
 use Rattle.draft_deltas.proofs.Reached.{no_other_of, absent_more}
 use Rattle.draft_deltas.proofs.touched.touch_product.Goals as goal
 

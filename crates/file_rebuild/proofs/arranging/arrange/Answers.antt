@@ -1,7 +1,7 @@
 use Rattle.std.proofs.Common.{map, refl, sym, ap, subst, ◌∙◌}
 use Rattle.std.specs.List.{zip}
 use Rattle.sqlite_trees.proofs.ListLemmas.{map-map}
-use Rattle.base_sorted.specs.Tables.{AreInOrder}
+use Rattle.base_tables.specs.Tables.{AreInOrder}
 use Rattle.file_rows.specs.declared.rows.ListRow.{ListRow}
 use Rattle.file_rows.specs.declared.rows.PositionRow.{PositionRow}
 use Rattle.file_rows.specs.declared.rows.QuotaRow.{QuotaRow}

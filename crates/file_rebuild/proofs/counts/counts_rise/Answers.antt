@@ -1,5 +1,5 @@
 use Rattle.std.proofs.Common.{◌∙◌, refl, sym, subst}
-use Rattle.base_sorted.specs.Tables.{AreInOrder}
+use Rattle.base_tables.specs.Tables.{AreInOrder}
 use Rattle.file_meaning.proofs.Told.{order_of_parts}
 use Rattle.file_rebuild.proofs.Offices.{order_in_parts}
 use Rattle.file_rebuild.proofs.counts.counts_rise.Goals as goal

@@ -1,5 +1,5 @@
 use Rattle.std.proofs.Common.{◌∙◌, IsTrue, map, ap, refl, sym, subst}
-use Rattle.base_sorted.specs.Tables.{AreInOrder}
+use Rattle.base_tables.specs.Tables.{AreInOrder}
 use Rattle.file_rows.specs.declared.rows.ListRow.{ListRow}
 use Rattle.file_rebuild.proofs.Joined.{lists_are, lists_whole}
 use Rattle.file_meaning.proofs.Told.{order_of_parts}

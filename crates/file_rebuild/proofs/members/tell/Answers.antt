@@ -1,6 +1,6 @@
 use Rattle.std.proofs.Common.{◌≡◌, ◌<◌, [], ◌∷◌, ◌++◌, length, get_or, map, sym, ap, subst, ◌∙◌, arith}
 use Rattle.std.proofs.lemmas.List.{map-set, get_or-map}
-use Rattle.base_sorted.specs.Tables.{IsPlace, IsGap}
+use Rattle.base_tables.specs.Tables.{IsPlace, IsGap}
 use Rattle.file_rebuild.proofs.Telling.{place_told, gap_same}
 use Rattle.file_rebuild.proofs.members.tell.Goals as goal
 

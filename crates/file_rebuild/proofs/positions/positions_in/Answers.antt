@@ -1,7 +1,7 @@
 use Rattle.std.proofs.Common.{◌↔◌, ◌∙◌, IsPermutation, IsTrue, map, ap, refl, sym, subst}
 use Rattle.std.specs.List.{zip}
 use Rattle.std.specs.Prelude.{option_map, unwrap_or}
-use Rattle.base_sorted.specs.Tables.{AreInOrder, row_at}
+use Rattle.base_tables.specs.Tables.{AreInOrder, row_at}
 use Rattle.file_rows.specs.declared.rows.DiscountRow.{DiscountRow}
 use Rattle.file_rows.specs.declared.rows.PositionRow.{PositionRow}
 use Rattle.file_meaning.specs.Rows.{position_of}

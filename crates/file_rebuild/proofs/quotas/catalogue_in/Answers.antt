@@ -1,5 +1,5 @@
 use Rattle.std.proofs.Common.{◌∙◌, IsTrue, map, ap, refl, sym, subst}
-use Rattle.base_sorted.specs.Tables.{AreInOrder}
+use Rattle.base_tables.specs.Tables.{AreInOrder}
 use Rattle.file_rows.specs.declared.rows.QuotaRow.{QuotaRow}
 use Rattle.file_rebuild.specs.Arranged.{item_link, variation_link, release_link}
 use Rattle.file_rebuild.proofs.Joined.{each_is, quotas_are, links_whole, items_all, variations_all, releases_all, both_whole}

@@ -1,6 +1,6 @@
 use Rattle.std.proofs.Common.{Some, sym, ap, ◌∙◌}
 use Rattle.std.specs.Prelude.{option_map}
-use Rattle.base_sorted.proofs.Places.{row_at_place, row_at_gap}
+use Rattle.base_tables.proofs.Places.{row_at_place, row_at_gap}
 use Rattle.file_rebuild.proofs.values.value_at.Goals as goal
 
 pub returns-in-Ok : goal.returns-in-Ok

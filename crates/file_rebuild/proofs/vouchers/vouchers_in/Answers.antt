@@ -1,7 +1,7 @@
 use Rattle.std.proofs.Common.{◌↔◌, ◌∙◌, IsPermutation, IsTrue, map, ap, refl, sym, subst}
 use Rattle.std.specs.List.{zip}
 use Rattle.std.specs.Prelude.{option_map}
-use Rattle.base_sorted.specs.Tables.{AreInOrder, row_at}
+use Rattle.base_tables.specs.Tables.{AreInOrder, row_at}
 use Rattle.file_rows.specs.declared.rows.BudgetRow.{BudgetRow}
 use Rattle.file_rows.specs.declared.rows.VoucherRow.{VoucherRow}
 use Rattle.file_meaning.specs.Rows.{voucher_of}

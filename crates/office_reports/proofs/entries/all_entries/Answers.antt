@@ -1,5 +1,5 @@
 use Rattle.std.proofs.Common.{◌≡◌, ◌∙◌, List, sym, ap, map, filter, subst}
-use Rattle.base_sorted.specs.Tables.{AreInOrder}
+use Rattle.base_tables.specs.Tables.{AreInOrder}
 use Rattle.model_catalogue.specs.declared.rows.Item.{Item}
 use Rattle.decide_door.specs.Belongs.{is_for}
 use Rattle.office_reports.specs.declared.entries.ItemEntries.{ItemEntries}

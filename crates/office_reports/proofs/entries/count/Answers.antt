@@ -1,5 +1,5 @@
 use Rattle.std.proofs.Common.{◌∙◌, set, sym, ap}
-use Rattle.base_sorted.proofs.Places.{row_at_gap}
+use Rattle.base_tables.proofs.Places.{row_at_gap}
 use Rattle.office_reports.specs.declared.entries.Entries.{Entries}
 use Rattle.office_reports.specs.declared.entries.ItemEntries.{ItemEntries}
 use Rattle.office_reports.specs.Counted.{with_ticket}

@@ -1,5 +1,5 @@
 use Rattle.std.proofs.Common.{◌∙◌, sym, ap, map, subst}
-use Rattle.base_sorted.specs.Tables.{AreInOrder}
+use Rattle.base_tables.specs.Tables.{AreInOrder}
 use Rattle.office_reports.specs.declared.sales.ItemSales.{ItemSales}
 use Rattle.office_reports.specs.Noted.{AreFew, noted_all, unsold}
 use Rattle.office_reports.proofs.Noting.{none_in_order, none_few, all_sales_are}

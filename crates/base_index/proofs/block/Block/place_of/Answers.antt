@@ -1,7 +1,7 @@
 use Rattle.std.proofs.Common.{ℕ, List, length, ◌∙◌, subst}
 use Rattle.std.specs.List.Sorted.{IsSearchInRange, IsBinarySearchResult}
 use Rattle.std.specs.Ordering.{nat_cmp}
-use Rattle.base_sorted.proofs.Places.{searched}
+use Rattle.base_tables.proofs.Places.{searched}
 use Rattle.base_index.proofs.block.Block.place_of.Goals as goal
 
 pub returns-clause-found : goal.returns-clause-found

@@ -1,6 +1,6 @@
 use Rattle.std.proofs.Common.{ℕ, ◌-◌, ◌<◌, ◌≤◌, [], length, get_or, sym, subst, arith}
 use Rattle.std.specs.List.{concat}
-use Rattle.base_sorted.specs.Tables.{Table, AreInOrder, IsPlace, IsGap}
+use Rattle.base_tables.specs.Tables.{Table, AreInOrder, IsPlace, IsGap}
 use Rattle.base_index.specs.Blocks.{start_of}
 use Rattle.base_index.proofs.RoomLemmas.{few_places, place_whole, gap_whole, block_rises, when_ok, when_err}
 use Rattle.base_index.proofs.blocks.Blocks.place_of.Goals as goal

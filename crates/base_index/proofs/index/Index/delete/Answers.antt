@@ -1,6 +1,6 @@
 use Rattle.std.proofs.Common.{subst, sym, ◌∙◌}
-use Rattle.base_sorted.specs.Tables.{AreInOrder}
-use Rattle.base_sorted.proofs.Places.{remove_is_without_row, without_gap, without_row_in_order}
+use Rattle.base_tables.specs.Tables.{AreInOrder}
+use Rattle.base_tables.proofs.Places.{remove_is_without_row, without_gap, without_row_in_order}
 use Rattle.base_index.proofs.index.Index.delete.Goals as goal
 
 pub invariant_of-self : goal.invariant_of-self

@@ -1,6 +1,6 @@
 use Rattle.std.proofs.Common.{not, eqb, subst, sym, ◌∙◌}
-use Rattle.base_sorted.specs.Tables.{AreInOrder}
-use Rattle.base_sorted.proofs.Places.{filter_in_order}
+use Rattle.base_tables.specs.Tables.{AreInOrder}
+use Rattle.base_tables.proofs.Places.{filter_in_order}
 use Rattle.base_index.specs.Entries.{id_of}
 use Rattle.base_index.proofs.index.Index.remove_all.Goals as goal
 

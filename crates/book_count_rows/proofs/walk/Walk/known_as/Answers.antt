@@ -1,6 +1,6 @@
 use Rattle.std.proofs.Common.{◌≡◌, false, Some, sym, ap, ◌∙◌}
-use Rattle.base_sorted.specs.Tables.{has}
-use Rattle.base_sorted.proofs.RisingLemmas.{has-rising}
+use Rattle.base_tables.specs.Tables.{has}
+use Rattle.base_tables.proofs.RisingLemmas.{has-rising}
 use Rattle.book_count_rows.specs.Due.{due_quotas}
 use Rattle.book_count_rows.proofs.Undue.{used_alike}
 use Rattle.book_count_rows.proofs.walk.Walk.known_as.Goals as goal

@@ -1,7 +1,7 @@
 use Rattle.std.proofs.Common.{◌≡◌, false, Option, sym, ap, ◌∙◌}
 use Rattle.std.specs.Prelude.{flat_map}
-use Rattle.base_sorted.specs.Tables.{has}
-use Rattle.base_sorted.proofs.RisingLemmas.{has-rising}
+use Rattle.base_tables.specs.Tables.{has}
+use Rattle.base_tables.proofs.RisingLemmas.{has-rising}
 use Rattle.model_catalogue.specs.declared.rows.Quota.{Quota}
 use Rattle.model_catalogue.specs.CatalogueLists.{quota_at}
 use Rattle.book_count_rows.specs.Walked.{quotas_by, quota_after}

@@ -1,6 +1,6 @@
 use Rattle.std.proofs.Common.{◌≡◌, ap, sym, ◌∙◌, arith}
-use Rattle.base_sorted.specs.Tables.{AreInOrder}
-use Rattle.base_sorted.proofs.Places.{row_at_gap}
+use Rattle.base_tables.specs.Tables.{AreInOrder}
+use Rattle.base_tables.proofs.Places.{row_at_gap}
 use Rattle.model_catalogue.specs.CatalogueLists.{CatalogueLists}
 use Rattle.model_rows.specs.Usage.{usage_of}
 use Rattle.book_deltas.proofs.Later.{time_is}

@@ -1,6 +1,6 @@
 use Rattle.std.proofs.Common.{subst, sym, ap, arith}
-use Rattle.base_sorted.specs.Tables.{AreInOrder}
-use Rattle.base_sorted.proofs.Places.{set_is_with_row, with_row_in_order, row_at_gap}
+use Rattle.base_tables.specs.Tables.{AreInOrder}
+use Rattle.base_tables.proofs.Places.{set_is_with_row, with_row_in_order, row_at_gap}
 use Rattle.book_log.specs.Places.{kept_place}
 use Rattle.book_log.proofs.touched.Touched.go_back.Goals as goal
 

@@ -1,5 +1,5 @@
 use Rattle.std.proofs.Common.{sym, ap, ◌∙◌, Some}
-use Rattle.base_sorted.proofs.Places.{row_at_place, row_at_gap}
+use Rattle.base_tables.proofs.Places.{row_at_place, row_at_gap}
 use Rattle.book_log.specs.Places.{kept_place}
 use Rattle.book_log.specs.declared.touched.Touch.{Touch}
 use Rattle.book_log.proofs.touched.Touched.last.Goals as goal

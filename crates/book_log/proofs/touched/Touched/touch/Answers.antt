@@ -1,6 +1,6 @@
 use Rattle.std.proofs.Common.{subst, sym, ◌∙◌, arith}
-use Rattle.base_sorted.specs.Tables.{AreInOrder}
-use Rattle.base_sorted.proofs.Places.{set_is_with_row, insert_is_with_row, with_row_in_order}
+use Rattle.base_tables.specs.Tables.{AreInOrder}
+use Rattle.base_tables.proofs.Places.{set_is_with_row, insert_is_with_row, with_row_in_order}
 use Rattle.book_log.proofs.touched.Touched.touch.Goals as goal
 
 pub invariant_of-self : goal.invariant_of-self

@@ -1,5 +1,5 @@
 use Rattle.std.proofs.Common.{ap, ◌∙◌}
-use Rattle.base_sorted.specs.Rising.{rising}
+use Rattle.base_tables.specs.Rising.{rising}
 use Rattle.book_store.proofs.EachCart.{next_cart, no_cart, each_sorted}
 use Rattle.book_store.proofs.store.Store.carts_in.Goals as goal
 

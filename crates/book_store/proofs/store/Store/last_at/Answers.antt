@@ -1,5 +1,5 @@
 use Rattle.std.proofs.Common.{◌≡◌, ℕ, ◌+◌, ◌<◌, List, ◌++◌, length, get_or, drop, Option, Some, None, refl, sym, ap, ◌∙◌, arith}
-use Rattle.base_sorted.specs.Tables.{row_at}
+use Rattle.base_tables.specs.Tables.{row_at}
 use Rattle.model_rows.specs.declared.rows.Checkin.{Checkin}
 use Rattle.model_rows.specs.declared.passages.Passage.{Passage}
 use Rattle.model_rows.specs.Conditions.{names}

@@ -1,6 +1,6 @@
 use Rattle.std.proofs.Common.{List, get_or, sym, ap, ◌∙◌}
 use Rattle.std.proofs.lemmas.List.{get_or_default}
-use Rattle.base_sorted.proofs.Places.{row_at_place}
+use Rattle.base_tables.proofs.Places.{row_at_place}
 use Rattle.model_catalogue.specs.declared.rows.Quota.{Quota}
 use Rattle.model_rows.specs.Lists.{Lists}
 use Rattle.draft_changes.specs.declared.bases.Base.{Base}

@@ -1,6 +1,6 @@
 use Rattle.std.proofs.Common.{◌≡◌, List, get_or, Some, sym, ap, ap₂, ◌∙◌, subst, arith}
-use Rattle.base_sorted.specs.Tables.{AreInOrder, row_at}
-use Rattle.base_sorted.proofs.Places.{row_at_place, row_at_gap}
+use Rattle.base_tables.specs.Tables.{AreInOrder, row_at}
+use Rattle.base_tables.proofs.Places.{row_at_place, row_at_gap}
 use Rattle.model_catalogue.specs.declared.rows.Quota.{Quota}
 use Rattle.model_catalogue.specs.CatalogueLists.{CatalogueLists}
 use Rattle.model_rows.specs.Lists.{Lists}

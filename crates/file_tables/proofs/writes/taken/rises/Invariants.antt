@@ -1,5 +1,5 @@
 use Rattle.std.proofs.Common.{drop}
-use Rattle.base_sorted.specs.Tables.{InOrderFrom, AreInOrder}
+use Rattle.base_tables.specs.Tables.{InOrderFrom, AreInOrder}
 use Rattle.file_tables.proofs.TakenLemmas.{above}
 use Rattle.file_tables.proofs.writes.taken.rises.Given as goal
 
