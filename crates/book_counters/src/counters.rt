@@ -10,18 +10,18 @@ ghost use Rattle.model_rows.specs.Change.{changes_applied};
 ghost use Rattle.model_rows.specs.Weight.{weight};
 ghost use Rattle.book_usage.specs.Dues.{with_due_steps, counts_of_changes};
 ghost use Rattle.book_usage.specs.Limits.{most_listed, most_spent};
-ghost use Rattle.book_settle.specs.Spared.{spares_used};
+ghost use Rattle.book_counts_applied.specs.Spared.{spares_used};
 
 use base_tables::place_of;
 use base_values::{Moment, Steps};
-use book_deltas::holds::held_by;
-use book_deltas::spends::spent_in;
-use book_deltas::turns::redeemed_in;
-use book_deltas::usage_later::later;
-use book_settle::again::count_again;
-use book_settle::counted::Counted;
-use book_settle::settle::settle;
-use book_settle::spared::spare_used;
+use book_counts_over_time::holds::held_by;
+use book_counts_over_time::spends::spent_in;
+use book_counts_over_time::turns::redeemed_in;
+use book_counts_over_time::usage_later::later;
+use book_counts_applied::again::count_again;
+use book_counts_applied::counted::Counted;
+use book_counts_applied::settle::settle;
+use book_counts_applied::spared::spare_used;
 use book_store::{Ended, Store};
 use model_catalogue::Quota;
 use model_rows::{Changes, CountRows, NextIds, Usage};
@@ -40,8 +40,8 @@ pub struct Counters {
 impl Model for Counters {
     ghost use Rattle.std.specs.Prelude.{min};
     ghost use Rattle.book_usage.specs.BookView.{BookView};
-    ghost use Rattle.book_deltas.specs.Beside.{room_left};
-    ghost use Rattle.book_settle.specs.Settled.{AllCounted};
+    ghost use Rattle.book_counts_over_time.specs.Beside.{room_left};
+    ghost use Rattle.book_counts_applied.specs.Settled.{AllCounted};
 
     ghost Value = { BookView };
 

@@ -9,7 +9,7 @@ ghost use Rattle.book_recount.specs.Copied.{counted_rows, puts_of};
 use crate::recount::Recount;
 use base_tables::{Row, Sparse};
 use base_values::Moment;
-use book_count_rows::counts_between;
+use book_counts_to_write::counts_between;
 use book_usage::Book;
 use model_catalogue::Quota;
 use model_rows::{CartPos, Change, Changes, Checkin, CountRows, Order, OrderPos, Voucher, Waiting};

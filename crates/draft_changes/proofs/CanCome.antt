@@ -17,7 +17,7 @@ use Rattle.model_rows.specs.Lists.{position_at, checkin_at}
 use Rattle.model_rows.specs.Conditions.{is_live_cart}
 use Rattle.model_rows.proofs.EachRow.{all-with_row, all-without_row}
 use Rattle.model_rows.proofs.Headroom.{headroom_put, headroom_drop}
-use Rattle.draft_deltas.specs.Logs.{Log, rows_of, IsSale}
+use Rattle.draft_counts.specs.Logs.{Log, rows_of, IsSale}
 use Rattle.draft_changes.specs.CanCome.{CanCome}
 
 module _ (at : ℕ) (log : Log) (before : AllHaveHeadroom at (rows_of log)) where

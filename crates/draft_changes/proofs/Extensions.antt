@@ -3,7 +3,7 @@ use Rattle.std.proofs.Common.{◌≡◌, ap, ◌∙◌}
 use Rattle.model_rows.specs.declared.changes.Change.{Change}
 use Rattle.model_rows.specs.Change.{change_applied}
 use Rattle.draft_changes.specs.DraftState.{DraftState, Extends, now, with_change}
-use Rattle.draft_deltas.proofs.Logs.{after_all-push}
+use Rattle.draft_counts.proofs.Logs.{after_all-push}
 
 -- it goes on after what went on
 pub extends_both : {a b c : DraftState} → Extends a b → Extends b c → Extends a c

@@ -20,9 +20,9 @@ use Rattle.model_rows.specs.declared.rows.Voucher.{Voucher}
 use Rattle.model_rows.specs.Change.{after_change, after_all}
 use Rattle.model_rows.specs.Lists.{Lists, voucher_at}
 use Rattle.model_rows.specs.Usage.{usage_of, redeemed, spent}
-use Rattle.draft_deltas.specs.Counts.{value_at}
-use Rattle.draft_deltas.specs.Logs.{Log, rows_of}
-use Rattle.draft_deltas.proofs.Values.{value_here}
+use Rattle.draft_counts.specs.Counts.{value_at}
+use Rattle.draft_counts.specs.Logs.{Log, rows_of}
+use Rattle.draft_counts.proofs.Values.{value_here}
 use Rattle.book_tally.specs.declared.amount.Uses.{Uses}
 use Rattle.book_tally.specs.declared.shifts.QuotaShift.{QuotaShift}
 use Rattle.book_tally.specs.declared.shifts.VoucherShift.{VoucherShift}

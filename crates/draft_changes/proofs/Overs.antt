@@ -16,7 +16,7 @@ use Rattle.model_rows.specs.declared.rows.Usage.{Usage}
 use Rattle.book_tally.specs.Amounts.{nothing}
 use Rattle.book_tally.proofs.Newest.{blank, newest_within}
 use Rattle.book_tally.proofs.Earlier.{key_there, newest_split}
-use Rattle.draft_deltas.specs.Counts.{value_at}
+use Rattle.draft_counts.specs.Counts.{value_at}
 use Rattle.draft_changes.specs.Least.{found_at, IsLeast}
 use Rattle.draft_changes.specs.Used.{places_used}
 

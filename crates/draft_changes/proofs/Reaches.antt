@@ -8,16 +8,16 @@ use Rattle.model_rows.specs.Change.{after_change}
 use Rattle.model_rows.specs.Headroom.{AllHaveHeadroom}
 use Rattle.model_rows.specs.Kept.{IsKept}
 use Rattle.model_rows.specs.Lists.{Lists, State}
-use Rattle.draft_deltas.specs.Logs.{Log, rows_of}
-use Rattle.draft_deltas.proofs.Logs.{after_all-push}
+use Rattle.draft_counts.specs.Logs.{Log, rows_of}
+use Rattle.draft_counts.proofs.Logs.{after_all-push}
 use Rattle.model_rows.specs.declared.rows.Usage.{Usage}
 use Rattle.book_tally.specs.declared.amount.Uses.{Uses}
 use Rattle.book_tally.specs.declared.tally.Count.{Count}
 use Rattle.book_tally.specs.Counts.{GoesOn}
 use Rattle.book_tally.proofs.Newest.{on_longer, on_front}
-use Rattle.draft_deltas.specs.declared.tallies.Reach.{Reach}
-use Rattle.draft_deltas.specs.declared.tallies.Standing.{Standing}
-use Rattle.draft_deltas.specs.Tallied.{Tallied, reach_now, reach_at, tallied_at, IsNext}
+use Rattle.draft_counts.specs.declared.tallies.Reach.{Reach}
+use Rattle.draft_counts.specs.declared.tallies.Standing.{Standing}
+use Rattle.draft_counts.specs.Tallied.{Tallied, reach_now, reach_at, tallied_at, IsNext}
 use Rattle.draft_changes.specs.declared.bases.Base.{Base}
 use Rattle.draft_changes.specs.Used.{AreBases}
 use Rattle.draft_changes.specs.CanCome.{CanCome}

@@ -1,8 +1,8 @@
 -- A quota that is one of the catalogue's is the one of its id, and of its place.
 use Rattle.std.proofs.Common.{◌≡◌, ℕ, ◌<◌, List, length, get_or, Some, sym, ap, ◌∙◌, subst}
 use Rattle.base_tables.specs.Tables.{row_at, AreInOrder}
-use Rattle.draft_deltas.specs.Counts.{value_at}
-use Rattle.draft_deltas.proofs.Values.{value_here}
+use Rattle.draft_counts.specs.Counts.{value_at}
+use Rattle.draft_counts.proofs.Values.{value_here}
 use Rattle.model_catalogue.proofs.Standing.{stands_at}
 use Rattle.model_catalogue.specs.declared.rows.Quota.{Quota}
 use Rattle.model_catalogue.specs.CatalogueLists.{CatalogueLists, quota_at}

@@ -9,18 +9,18 @@ use Rattle.model_rows.specs.Lists.{Lists}
 use Rattle.model_rows.specs.Total.{total}
 use Rattle.model_rows.specs.Usage.{usage_of}
 use Rattle.model_rows.proofs.Exits.{exited_are_paid}
-use Rattle.draft_deltas.specs.Logs.{Log, rows_of, IsSale}
-use Rattle.draft_deltas.proofs.Logs.{after_all-push}
+use Rattle.draft_counts.specs.Logs.{Log, rows_of, IsSale}
+use Rattle.draft_counts.proofs.Logs.{after_all-push}
 use Rattle.book_tally.specs.declared.amount.Uses.{Uses}
 use Rattle.book_tally.specs.declared.tally.Count.{Count}
 use Rattle.book_tally.specs.Amounts.{nothing, plus, no_uses, plus_uses}
 use Rattle.book_tally.specs.Counts.{came, went}
 use Rattle.book_tally.proofs.AmountLemmas.{stepped, stepped_uses, total_both}
-use Rattle.draft_deltas.specs.Counts.{value_at, IsMore, AreMoreUses}
-use Rattle.draft_deltas.specs.Shift.{come_of, gone_of}
-use Rattle.draft_deltas.specs.Uses.{uses_of, use_come, use_gone}
-use Rattle.draft_deltas.proofs.Values.{values_add, value_of}
-use Rattle.draft_deltas.proofs.UseShifts.{use_step}
+use Rattle.draft_counts.specs.Counts.{value_at, IsMore, AreMoreUses}
+use Rattle.draft_counts.specs.Shift.{come_of, gone_of}
+use Rattle.draft_counts.specs.Uses.{uses_of, use_come, use_gone}
+use Rattle.draft_counts.proofs.Values.{values_add, value_of}
+use Rattle.draft_counts.proofs.UseShifts.{use_step}
 use Rattle.draft_changes.specs.CanCome.{CanCome}
 use Rattle.draft_changes.specs.DraftState.{IsCounted, IsTotalled, AreKept}
 use Rattle.draft_changes.specs.Used.{places_used, usage_raised}

@@ -5,7 +5,7 @@ use Rattle.model_rows.specs.declared.changes.Change.TheVariants.{PutItem, PutVar
 use Rattle.model_rows.specs.Change.{after_change}
 use Rattle.model_rows.specs.Headroom.{AllHaveHeadroom}
 use Rattle.model_rows.specs.Lists.{Lists, position_at, checkin_at}
-use Rattle.draft_deltas.specs.Logs.{Log, rows_of}
+use Rattle.draft_counts.specs.Logs.{Log, rows_of}
 
 -- no voucher is used too often, before the change and after it
 pub record KeepsHeadroom (at : ℕ) (change : Change) (lists : Lists) : Type 0 where

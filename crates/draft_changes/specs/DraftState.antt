@@ -7,15 +7,15 @@ use Rattle.model_rows.specs.Change.{change_applied}
 use Rattle.model_rows.specs.Lists.{State}
 use Rattle.model_rows.specs.Headroom.{AllHaveHeadroom}
 use Rattle.model_rows.specs.Usage.{usage_of}
-use Rattle.draft_deltas.specs.Logs.{Log, rows_of, log_with}
+use Rattle.draft_counts.specs.Logs.{Log, rows_of, log_with}
 use Rattle.book_tally.specs.declared.amount.Uses.{Uses}
 use Rattle.book_tally.specs.declared.tally.Count.{Count}
 use Rattle.book_tally.specs.Amounts.{nothing, plus, no_uses, plus_uses}
 use Rattle.book_tally.specs.Counts.{came, went}
-use Rattle.draft_deltas.specs.declared.tallies.Reach.{Reach}
-use Rattle.draft_deltas.specs.Counts.{value_at}
-use Rattle.draft_deltas.specs.Tallied.{Tallied, reach_at, tallied_at}
-use Rattle.draft_deltas.specs.Uses.{uses_of}
+use Rattle.draft_counts.specs.declared.tallies.Reach.{Reach}
+use Rattle.draft_counts.specs.Counts.{value_at}
+use Rattle.draft_counts.specs.Tallied.{Tallied, reach_at, tallied_at}
+use Rattle.draft_counts.specs.Uses.{uses_of}
 use Rattle.draft_changes.specs.declared.bases.Base.{Base}
 use Rattle.draft_changes.specs.Handed.{AreNoted}
 use Rattle.draft_changes.specs.Used.{places_used, usage_raised, AreBases}

@@ -12,7 +12,7 @@ use Rattle.book_tally.specs.declared.shifts.VoucherShift.{VoucherShift}
 use Rattle.book_tally.specs.declared.tally.Count.{Count}
 use Rattle.book_tally.specs.Amounts.{nothing, no_uses}
 use Rattle.book_tally.specs.Counts.{came, went}
-use Rattle.draft_deltas.specs.Counts.{value_at}
+use Rattle.draft_counts.specs.Counts.{value_at}
 
 -- the voucher that a change puts or drops
 abbrev pub vouchers_by : Change → List ℕ

@@ -5,7 +5,7 @@ use Rattle.model_catalogue.specs.declared.rows.Quota.{Quota}
 use Rattle.model_rows.specs.declared.rows.Own.{Own}
 use Rattle.model_rows.specs.declared.rows.Usage.{Usage}
 use Rattle.model_rows.specs.Over.{is_over}
-use Rattle.draft_deltas.specs.Logs.{Log, rows_of, rows_at}
+use Rattle.draft_counts.specs.Logs.{Log, rows_of, rows_at}
 use Rattle.book_tally.specs.declared.tally.Count.{Count}
 use Rattle.book_tally.specs.Counts.{newest}
 

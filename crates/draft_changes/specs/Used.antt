@@ -7,7 +7,7 @@ use Rattle.model_rows.specs.Lists.{Lists}
 use Rattle.model_rows.specs.Total.{total}
 use Rattle.model_rows.specs.Usage.{usage_of}
 use Rattle.model_rows.specs.declared.rows.Usage.{Usage}
-use Rattle.draft_deltas.specs.Counts.{value_at}
+use Rattle.draft_counts.specs.Counts.{value_at}
 use Rattle.book_tally.specs.Amounts.{adds}
 use Rattle.draft_changes.specs.declared.bases.Base.{Base}
 

@@ -8,7 +8,7 @@ ghost use Rattle.base_tables.specs.Tables.{AreInOrder};
 ghost use Rattle.model_rows.specs.Over.{first_over};
 ghost use Rattle.model_rows.specs.Change.{change_applied};
 ghost use Rattle.draft_changes.specs.DraftState.{DraftState, MarkState, IsMarkOf, Extends, Makes, now, back, with_change};
-ghost use Rattle.draft_deltas.specs.Logs.{rows_of};
+ghost use Rattle.draft_counts.specs.Logs.{rows_of};
 ghost use Rattle.draft_changes.specs.CanCome.{CanCome};
 ghost use Rattle.book_tally.specs.Shifts.{AreShifts};
 ghost use Rattle.model_rows.specs.Usage.{redeemed, spent, usage_of, waits_for};
@@ -21,7 +21,7 @@ use crate::over::Weighing;
 use base_values::Moment;
 use book_tally::Drafted;
 use book_usage::{Book, LookUps, usage_of};
-use draft_deltas::{Overlay, Tallies};
+use draft_counts::{Overlay, Tallies};
 use model_catalogue::Quota;
 use model_rows::{
     CartPos, Change, Changes, Checkin, CheckinList, NextIds, Order, OrderPos, Own, Voucher, Waiting,

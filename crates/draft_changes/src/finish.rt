@@ -2,7 +2,7 @@
 
 ghost use Rattle.std.specs.Prelude.{◌≡◌, ◌++◌, IfOk, OnOk, OnErr, map, flat_map};
 ghost use Rattle.base_tables.specs.Rising.{rising};
-ghost use Rattle.draft_deltas.specs.Logs.{rows_of};
+ghost use Rattle.draft_counts.specs.Logs.{rows_of};
 ghost use Rattle.book_tally.specs.Shifts.{AreShifts};
 ghost use Rattle.draft_changes.specs.DraftState.{IsCounted, AreKept};
 ghost use Rattle.draft_changes.specs.Handed.{vouchers_by, AreNoted, quota_shift, voucher_shift};
@@ -11,7 +11,7 @@ use base_tables::Ids;
 use base_values::Moment;
 use book_tally::{Amount, QuotaShift, Shifts, Tally, Uses, VoucherShift};
 use book_usage::{Book, LookUps};
-use draft_deltas::{Overlay, Tallies};
+use draft_counts::{Overlay, Tallies};
 use model_catalogue::Quota;
 use model_rows::{Change, Usage};
 use std::alloc::{AllocError, Global};

@@ -4,7 +4,7 @@ ghost use Rattle.std.specs.Prelude.{◌≡◌, ◌≤◌, ◌<◌, ◌+◌, ◌-
 ghost use Rattle.std.specs.Option.{IfSome};
 ghost use Rattle.model_catalogue.specs.CatalogueLists.{quota_at};
 ghost use Rattle.model_rows.specs.Over.{first_over, is_over};
-ghost use Rattle.draft_deltas.specs.Logs.{rows_of, rows_at};
+ghost use Rattle.draft_counts.specs.Logs.{rows_of, rows_at};
 ghost use Rattle.draft_changes.specs.Least.{over_at, IsLeast};
 ghost use Rattle.draft_changes.specs.DraftState.{log_at, IsTotalled};
 ghost use Rattle.model_catalogue.specs.declared.rows.Quota.{Quota};
@@ -17,7 +17,7 @@ use base_tables::place_of;
 use base_values::Moment;
 use book_tally::{Count, Tally};
 use book_usage::Book;
-use draft_deltas::Overlay;
+use draft_counts::Overlay;
 use model_catalogue::Quota;
 use model_rows::{Own, Usage};
 

@@ -11,7 +11,7 @@ ghost use Rattle.office_once.specs.CallsLeave.{Decides};
 
 use crate::shop::Shop;
 use base_values::{Draw, Moment, Response};
-use book_count_rows::counts_by_shifts;
+use book_counts_to_write::counts_by_shifts;
 use book_usage::Dues;
 use model_answers::Tables;
 use model_commands::Command;

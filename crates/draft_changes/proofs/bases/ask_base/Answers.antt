@@ -2,7 +2,7 @@ use Rattle.std.proofs.Common.{◌≡◌, List, sym, ap, ◌∙◌, subst, arith}
 use Rattle.base_tables.proofs.Places.{insert_is_with_row}
 use Rattle.model_catalogue.specs.CatalogueLists.{CatalogueLists}
 use Rattle.draft_changes.specs.declared.bases.Base.{Base}
-use Rattle.draft_deltas.specs.Counts.{value_at}
+use Rattle.draft_counts.specs.Counts.{value_at}
 use Rattle.draft_changes.specs.Used.{places_used, IsBase, AreBases}
 use Rattle.draft_changes.proofs.Asked.{known_more}
 use Rattle.draft_changes.proofs.Standing.{quota_stands, value_there}

@@ -7,8 +7,8 @@ use Rattle.model_rows.specs.declared.rows.Usage.{Usage}
 use Rattle.model_rows.specs.Lists.{Lists}
 use Rattle.book_tally.specs.declared.amount.Uses.{Uses}
 use Rattle.book_tally.specs.declared.tally.Count.{Count}
-use Rattle.draft_deltas.specs.Logs.{rows_of}
-use Rattle.draft_deltas.proofs.Logs.{sales_catalogue}
+use Rattle.draft_counts.specs.Logs.{rows_of}
+use Rattle.draft_counts.proofs.Logs.{sales_catalogue}
 use Rattle.draft_changes.specs.DraftState.{IsCounted, AreKept}
 use Rattle.draft_changes.specs.Handed.{quota_shift, voucher_shift}
 use Rattle.draft_changes.proofs.HandedLemmas.{handed}

@@ -1,6 +1,6 @@
 use Rattle.std.proofs.Common.{◌≡◌, take}
 use Rattle.std.specs.Prelude.{flat_map}
-use Rattle.draft_deltas.specs.Logs.{rows_of}
+use Rattle.draft_counts.specs.Logs.{rows_of}
 use Rattle.draft_changes.specs.Handed.{voucher_shift}
 use Rattle.draft_changes.proofs.finish.voucher_shifts.Given as goal
 

@@ -3,8 +3,8 @@ use Rattle.base_tables.specs.Tables.{AreInOrder}
 use Rattle.base_tables.proofs.Places.{row_at_gap}
 use Rattle.model_catalogue.specs.CatalogueLists.{CatalogueLists}
 use Rattle.model_rows.specs.Usage.{usage_of}
-use Rattle.book_deltas.proofs.Later.{time_is}
-use Rattle.book_deltas.proofs.ShiftLemmas.{kept_usage}
+use Rattle.book_counts_over_time.proofs.Later.{time_is}
+use Rattle.book_counts_over_time.proofs.ShiftLemmas.{kept_usage}
 use Rattle.book_counters.proofs.counters.Counters.usage_later.Goals as goal
 
 pub returns-in-Ok-clause-value : goal.returns-in-Ok-clause-value

@@ -1,6 +1,6 @@
 use Rattle.std.proofs.Common.{◌≤◌, length, take, sym, ap, subst, arith}
-use Rattle.draft_deltas.specs.Logs.{Log}
-use Rattle.draft_deltas.specs.Tallied.{Tallied}
+use Rattle.draft_counts.specs.Logs.{Log}
+use Rattle.draft_counts.specs.Tallied.{Tallied}
 use Rattle.draft_changes.specs.DraftState.{DraftState, MarkState, IsDraft}
 use Rattle.draft_changes.proofs.Reaches.{draft_back}
 use Rattle.draft_changes.proofs.draft.Draft.back_to.Goals as goal

@@ -4,13 +4,13 @@ use Rattle.model_catalogue.specs.declared.rows.Quota.{Quota}
 use Rattle.model_catalogue.specs.CatalogueLists.{CatalogueLists}
 use Rattle.model_rows.specs.Lists.{Lists}
 use Rattle.model_rows.specs.Change.{change_applied}
-use Rattle.draft_deltas.specs.Logs.{Log, rows_of}
-use Rattle.draft_deltas.proofs.Logs.{when_ok}
-use Rattle.draft_deltas.specs.Tallied.{IsNext}
+use Rattle.draft_counts.specs.Logs.{Log, rows_of}
+use Rattle.draft_counts.proofs.Logs.{when_ok}
+use Rattle.draft_counts.specs.Tallied.{IsNext}
 use Rattle.draft_changes.specs.CanCome.{CanCome}
 use Rattle.draft_changes.specs.DraftState.{DraftState, IsDraft, now}
 use Rattle.draft_changes.proofs.Extensions.{now-with_change}
-use Rattle.draft_deltas.specs.Tallied.{Tallied, tallied_at}
+use Rattle.draft_counts.specs.Tallied.{Tallied, tallied_at}
 use Rattle.draft_changes.specs.Handed.{vouchers_by}
 use Rattle.draft_changes.proofs.HandedLemmas.{noted_still}
 use Rattle.draft_changes.proofs.Reaches.{draft_more, draft_noted, tallied_more, tallied_before, tallied_whole, reach_within, uses_within}

@@ -1,7 +1,7 @@
 use Rattle.std.proofs.Common.{sym, ap, ◌∙◌}
 use Rattle.model_catalogue.specs.CatalogueLists.{CatalogueLists, quota_at}
-use Rattle.draft_deltas.specs.Logs.{Log, rows_of}
-use Rattle.draft_deltas.proofs.Logs.{sales_catalogue}
+use Rattle.draft_counts.specs.Logs.{Log, rows_of}
+use Rattle.draft_counts.proofs.Logs.{sales_catalogue}
 use Rattle.draft_changes.specs.DraftState.{DraftState, now}
 use Rattle.draft_changes.specs.Used.{places_used}
 use Rattle.draft_changes.proofs.draft.Draft.used.Goals as goal

@@ -1,7 +1,7 @@
 use Rattle.std.proofs.Common.{sym, ap, ◌∙◌}
 use Rattle.model_catalogue.specs.CatalogueLists.{CatalogueLists, quota_at}
 use Rattle.model_rows.specs.Lists.{Lists}
-use Rattle.draft_deltas.proofs.Logs.{sales_catalogue}
+use Rattle.draft_counts.proofs.Logs.{sales_catalogue}
 use Rattle.draft_changes.specs.DraftState.{DraftState, now}
 use Rattle.draft_changes.proofs.draft.Draft.waiting_for.Goals as goal
 

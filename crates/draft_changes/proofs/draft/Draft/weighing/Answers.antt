@@ -3,8 +3,8 @@ use Rattle.model_catalogue.specs.CatalogueLists.{CatalogueLists}
 use Rattle.model_rows.specs.Lists.{Lists}
 use Rattle.model_rows.specs.declared.rows.Usage.{Usage}
 use Rattle.book_tally.specs.declared.tally.Count.{Count}
-use Rattle.draft_deltas.specs.declared.tallies.Reach.{Reach}
-use Rattle.draft_deltas.specs.Tallied.{reach_at}
+use Rattle.draft_counts.specs.declared.tallies.Reach.{Reach}
+use Rattle.draft_counts.specs.Tallied.{reach_at}
 use Rattle.draft_changes.specs.declared.bases.Base.{Base}
 use Rattle.draft_changes.specs.DraftState.{DraftState, MarkState, IsTotalled, log_at}
 use Rattle.draft_changes.specs.Used.{AreBases}

@@ -5,8 +5,8 @@ use Rattle.model_catalogue.specs.declared.rows.Quota.{Quota}
 use Rattle.model_rows.specs.Lists.{Lists}
 use Rattle.draft_changes.specs.declared.bases.Base.{Base}
 use Rattle.draft_changes.specs.Used.{places_used, IsBase}
-use Rattle.draft_deltas.specs.Counts.{value_at}
-use Rattle.draft_deltas.proofs.Values.{value_here}
+use Rattle.draft_counts.specs.Counts.{value_at}
+use Rattle.draft_counts.proofs.Values.{value_here}
 use Rattle.draft_changes.proofs.Standing.{quota_stands}
 use Rattle.draft_changes.proofs.over.Weighing.base_of.Goals as goal
 

@@ -3,8 +3,8 @@ use Rattle.std.specs.Prelude.{find, option_map, length}
 use Rattle.model_catalogue.specs.declared.rows.Quota.{Quota}
 use Rattle.model_catalogue.specs.CatalogueLists.{CatalogueLists}
 use Rattle.model_rows.specs.Over.{is_over}
-use Rattle.draft_deltas.specs.Logs.{rows_of, rows_at}
-use Rattle.draft_deltas.proofs.Logs.{sales_catalogue}
+use Rattle.draft_counts.specs.Logs.{rows_of, rows_at}
+use Rattle.draft_counts.proofs.Logs.{sales_catalogue}
 use Rattle.draft_changes.specs.Least.{found_at, IsLeast}
 use Rattle.draft_changes.proofs.Overs.{least_over, none_over}
 use Rattle.draft_changes.proofs.over.Weighing.first_over.Goals as goal

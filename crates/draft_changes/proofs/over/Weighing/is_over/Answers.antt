@@ -5,7 +5,7 @@ use Rattle.model_rows.specs.Lists.{Lists}
 use Rattle.model_rows.specs.Total.{total}
 use Rattle.model_rows.specs.Usage.{usage_of}
 use Rattle.model_rows.specs.Over.{is_over, is_over_size, quota_weighed}
-use Rattle.draft_deltas.specs.Logs.{rows_of, rows_at}
+use Rattle.draft_counts.specs.Logs.{rows_of, rows_at}
 use Rattle.draft_changes.specs.Used.{places_used, usage_raised}
 use Rattle.draft_changes.proofs.Standing.{value_there}
 use Rattle.draft_changes.proofs.Overs.{not_over, size_none}

@@ -1,10 +1,10 @@
 use Rattle.std.proofs.Common.{◌≡◌, List, sym, ap, ap₂, ◌∙◌, subst, arith}
 use Rattle.model_catalogue.specs.declared.rows.Quota.{Quota}
 use Rattle.model_rows.specs.Over.{is_over}
-use Rattle.draft_deltas.specs.Logs.{rows_of, rows_at}
+use Rattle.draft_counts.specs.Logs.{rows_of, rows_at}
 use Rattle.book_tally.specs.Amounts.{nothing}
 use Rattle.book_tally.proofs.Earlier.{same_at_mark}
-use Rattle.draft_deltas.specs.Counts.{value_at}
+use Rattle.draft_counts.specs.Counts.{value_at}
 use Rattle.draft_changes.specs.Least.{found_at}
 use Rattle.draft_changes.specs.Used.{places_used, usage_raised}
 use Rattle.draft_changes.proofs.Overs.{untouched, least_start, least_end, within_over}

@@ -1,5 +1,5 @@
 use Rattle.model_rows.specs.Over.{is_over}
-use Rattle.draft_deltas.specs.Logs.{rows_of, rows_at}
+use Rattle.draft_counts.specs.Logs.{rows_of, rows_at}
 use Rattle.draft_changes.specs.Least.{found_at, IsLeast}
 use Rattle.draft_changes.proofs.over.Weighing.least_over.Given as goal
 

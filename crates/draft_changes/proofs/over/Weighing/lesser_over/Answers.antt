@@ -1,7 +1,7 @@
 use Rattle.std.proofs.Common.{ℕ, Option, sym, ap, ◌∙◌}
 use Rattle.std.specs.Prelude.{is_some}
 use Rattle.model_rows.specs.Over.{is_over}
-use Rattle.draft_deltas.specs.Logs.{rows_of, rows_at}
+use Rattle.draft_counts.specs.Logs.{rows_of, rows_at}
 use Rattle.book_tally.specs.Amounts.{nothing}
 use Rattle.book_tally.proofs.Newest.{blank}
 use Rattle.draft_changes.specs.Least.{found_at}

@@ -2,7 +2,7 @@ use Rattle.std.proofs.Common.{◌≡◌, Bool, true, false, Some, None, sym, ap,
 use Rattle.std.specs.Prelude.{if◌then◌else◌}
 use Rattle.model_catalogue.specs.declared.rows.Quota.{Quota}
 use Rattle.model_rows.specs.Over.{is_over}
-use Rattle.draft_deltas.specs.Logs.{rows_of, rows_at}
+use Rattle.draft_counts.specs.Logs.{rows_of, rows_at}
 use Rattle.draft_changes.proofs.Found.{found_here, found_past}
 use Rattle.draft_changes.proofs.over.Weighing.over_at.Goals as goal
 

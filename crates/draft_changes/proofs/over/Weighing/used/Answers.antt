@@ -4,7 +4,7 @@ use Rattle.base_tables.proofs.Places.{row_at_place, row_at_gap}
 use Rattle.model_catalogue.specs.declared.rows.Quota.{Quota}
 use Rattle.model_catalogue.specs.CatalogueLists.{CatalogueLists}
 use Rattle.model_rows.specs.Lists.{Lists}
-use Rattle.draft_deltas.specs.Logs.{rows_of}
+use Rattle.draft_counts.specs.Logs.{rows_of}
 use Rattle.draft_changes.specs.Used.{places_used, usage_raised}
 use Rattle.draft_changes.proofs.Standing.{value_there}
 use Rattle.draft_changes.proofs.over.Weighing.used.Goals as goal

@@ -1,5 +1,0 @@
-use Rattle.book_count_rows.proofs.WalkedRows.{ordered_book}
-use Rattle.book_count_rows.proofs.walk.ids_rise.Goals as goal
-
-pub returns : goal.returns
-returns g c = ordered_book _ _ (g.B.Book.state c.args.book.now).lists c.catalogue.result.now.lists c.known.ensures c.known-2.ensures c.catalogue.ensures

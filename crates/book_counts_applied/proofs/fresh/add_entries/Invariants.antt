@@ -1,0 +1,11 @@
+use Rattle.std.proofs.Common.{◌≡◌, length}
+use Rattle.book_counts_over_time.specs.Shifts.{map_beside}
+use Rattle.book_counts_applied.specs.Fresh.{after_each, entry_comes}
+use Rattle.book_counts_applied.proofs.fresh.add_entries.Given as goal
+
+-- with the rows that are left the usages are those with all
+abbrev pub invariant-loop-row : goal.invariant-loop-row
+invariant-loop-row l = record {
+  items : map_beside (after_each entry_comes l.row-iterator) l.store.state.lists.catalogue.quotas l.usages.items ≡ map_beside (after_each entry_comes l.store.state.lists.waiting) l.store.state.lists.catalogue.quotas l.fn.usages.items;
+  same : length l.usages.items ≡ length l.fn.usages.items;
+}

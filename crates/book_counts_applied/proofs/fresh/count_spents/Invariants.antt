@@ -1,0 +1,11 @@
+use Rattle.std.proofs.Common.{◌≡◌, ◌≤◌, length, map, take, vec_capacity}
+use Rattle.model_rows.specs.Usage.{spent}
+use Rattle.book_counts_applied.proofs.fresh.count_spents.Given as goal
+
+-- those of the rows so far
+abbrev pub invariant-loop-row : goal.invariant-loop-row
+invariant-loop-row l = record {
+  items : l.spents.items ≡ map (λ v. spent v.id l.store.state.lists) (take l.row-index l.rows);
+  count : length l.spents.items ≡ l.row-index;
+  room : length l.rows ≤ vec_capacity l.spents;
+}

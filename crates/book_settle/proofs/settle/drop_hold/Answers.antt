@@ -1,9 +1,0 @@
-use Rattle.model_rows.specs.declared.rows.Voucher.{Voucher}
-use Rattle.model_rows.specs.Headroom.{held}
-use Rattle.book_settle.proofs.settle.drop_hold.Goals as goal
-
-pub returns-clause-held : goal.returns-clause-held
-returns-clause-held c =
-    let lists = c.args.store.now.state.lists in
-    let keeps = rw c.vouchers.ensures at c.forget.ensures.kept in
-    keeps (λ (v : Voucher). held c.args.store.now.state.moment v.id lists) c.requires.held
