@@ -16,7 +16,7 @@ use base_tables::place_of;
 use base_values::{Moment, Steps};
 use book_counts_over_time::holds::held_by;
 use book_counts_over_time::spends::spent_in;
-use book_counts_over_time::turns::redeemed_in;
+use book_counts_over_time::redemptions::redeemed_in;
 use book_counts_over_time::usage_later::later;
 use book_counts_applied::again::count_again;
 use book_counts_applied::counted::Counted;

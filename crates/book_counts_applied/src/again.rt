@@ -9,7 +9,7 @@ use crate::counted::Counted;
 use crate::fresh::{count_holds, count_redeems, count_spents, count_usages};
 use crate::settle::stay_small;
 use base_values::Moment;
-use book_counts_over_time::turns::vouchers;
+use book_counts_over_time::redemptions::vouchers;
 use book_store::Store;
 use model_rows::{Change, Changes};
 

@@ -5,7 +5,7 @@ ghost use Rattle.std.specs.Prelude.{◌≡◌, ◌≤◌, ◌<◌, ◌++◌, [],
 ghost use Rattle.model_rows.specs.Headroom.{held};
 ghost use Rattle.model_rows.specs.Usage.{redeemed, spent};
 ghost use Rattle.book_counts_over_time.specs.Shifts.{block_shift, cart_shift, waiting_shift};
-ghost use Rattle.book_counts_over_time.specs.Turns.{position_shift};
+ghost use Rattle.book_counts_over_time.specs.Redemptions.{position_shift};
 ghost use Rattle.book_counts_over_time.specs.Usages.{AreUsages, AreRedeemed};
 ghost use Rattle.book_counts_applied.specs.Fresh.{AllShifted, after_each, position_comes, cart_comes, entry_comes, voucher_comes};
 ghost use Rattle.book_counts_applied.specs.Settled.{nothing, AreSmall};
@@ -13,7 +13,7 @@ ghost use Rattle.book_counts_applied.specs.Settled.{nothing, AreSmall};
 use base_values::Moment;
 use book_counts_over_time::shift::{Shift, count_moved};
 use book_counts_over_time::touched::{shift_hit, shift_product};
-use book_counts_over_time::turns::{redeemed_in, vouchers};
+use book_counts_over_time::redemptions::{redeemed_in, vouchers};
 use book_store::Store;
 use book_usage::rules::{
     blocked_share, cart_share, exited_share, paid_share, pending_share, waiting_share,

@@ -22,7 +22,7 @@ use crate::counted::Counted;
 use base_values::Moment;
 use book_counts_over_time::holds::{held_by, hold_at, hold_drop, hold_put};
 use book_counts_over_time::shift::{forget, keep};
-use book_counts_over_time::turns::vouchers;
+use book_counts_over_time::redemptions::vouchers;
 use book_store::Store;
 use book_usage::rules::left_of;
 use model_catalogue::Quota;

@@ -5,7 +5,7 @@ ghost use Rattle.std.specs.List.{list_all};
 ghost use Rattle.book_counts_over_time.specs.Usages.{AreRedeemed};
 ghost use Rattle.book_counts_applied.specs.Spared.{spares_used};
 
-use book_counts_over_time::turns::redeemed_in;
+use book_counts_over_time::redemptions::redeemed_in;
 use book_store::Store;
 use model_rows::Change;
 

@@ -18,8 +18,8 @@ use Rattle.book_indexes.specs.Indexes.{Finds}
 use Rattle.book_indexes.proofs.EntryLemmas.{sums_like, sum_map}
 use Rattle.book_usage.specs.Shares.{held_name}
 use Rattle.book_counts_over_time.specs.Held.{named_by}
-use Rattle.book_counts_over_time.specs.Turns.{turn, turn_each}
-use Rattle.book_counts_over_time.proofs.TurnLemmas.{one_use, up_one, down_one, down_each}
+use Rattle.book_counts_over_time.specs.Redemptions.{turn, turn_each}
+use Rattle.book_counts_over_time.proofs.RedemptionLemmas.{one_use, up_one, down_one, down_each}
 
 abbrev one : Bool → ℕ
 one b = if b then 1 else 0

@@ -6,5 +6,5 @@ pub mod Due
 pub mod Later
 pub mod ShiftLemmas
 pub mod Kept
-pub mod TurnLemmas
+pub mod RedemptionLemmas
 pub mod HoldLemmas

@@ -3,6 +3,6 @@ pub mod Later
 pub mod Names
 pub mod Shifts
 pub mod Spends
-pub mod Turns
+pub mod Redemptions
 pub mod Beside
 pub mod Usages

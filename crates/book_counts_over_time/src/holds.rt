@@ -12,9 +12,9 @@ ghost use Rattle.book_usage.specs.Naming.{cart_names};
 ghost use Rattle.book_usage.specs.Shares.{held_name};
 ghost use Rattle.book_counts_over_time.specs.Beside.{Stays, StepsBeside};
 ghost use Rattle.book_counts_over_time.specs.Held.{AreHeld, AreHeldNow, named_by};
-ghost use Rattle.book_counts_over_time.specs.Turns.{turn};
+ghost use Rattle.book_counts_over_time.specs.Redemptions.{turn};
 
-use crate::turns::{count_after_turn, vouchers};
+use crate::redemptions::{count_after_turn, vouchers};
 use base_tables::place_of;
 use base_values::Moment;
 use book_store::Store;

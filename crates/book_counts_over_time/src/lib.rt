@@ -5,5 +5,5 @@ pub mod holds;
 pub mod shift;
 pub mod spends;
 pub mod touched;
-pub mod turns;
+pub mod redemptions;
 pub mod usage_later;

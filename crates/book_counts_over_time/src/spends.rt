@@ -5,7 +5,7 @@ ghost use Rattle.model_rows.specs.Usage.{spent};
 ghost use Rattle.book_usage.specs.Limits.{most_spent};
 ghost use Rattle.book_counts_over_time.specs.Spends.{ArePriced, AreSpent};
 
-use crate::turns::vouchers;
+use crate::redemptions::vouchers;
 use base_tables::place_of;
 use book_store::Store;
 

@@ -2,7 +2,7 @@ use Rattle.std.proofs.Common.{◌≡◌, length, take, map, vec_capacity, false}
 use Rattle.model_rows.specs.Headroom.{held}
 use Rattle.model_rows.specs.Lists.{cart_at}
 use Rattle.book_counts_over_time.specs.Held.{named_by}
-use Rattle.book_counts_over_time.specs.Turns.{turn_each}
+use Rattle.book_counts_over_time.specs.Redemptions.{turn_each}
 use Rattle.book_counts_over_time.proofs.holds.hold_at.Given as goal
 
 -- those so far have ended

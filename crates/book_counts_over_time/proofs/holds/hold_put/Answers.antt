@@ -4,7 +4,7 @@ use Rattle.model_rows.specs.Change.{after_change}
 use Rattle.model_rows.specs.declared.changes.Change.TheVariants.{PutCart}
 use Rattle.std.specs.Prelude.{true, Some}
 use Rattle.book_usage.specs.Shares.{held_name}
-use Rattle.book_counts_over_time.specs.Turns.{turn}
+use Rattle.book_counts_over_time.specs.Redemptions.{turn}
 use Rattle.book_counts_over_time.proofs.HoldLemmas.{held_put}
 use Rattle.book_counts_over_time.proofs.ShiftLemmas.{same_map}
 use Rattle.book_counts_over_time.proofs.holds.hold_put.Goals as goal

@@ -1,5 +1,5 @@
 use Rattle.std.proofs.Common.{refl}
-use Rattle.book_counts_over_time.proofs.TurnLemmas.{spent_place, spent_gap}
+use Rattle.book_counts_over_time.proofs.RedemptionLemmas.{spent_place, spent_gap}
 use Rattle.book_counts_over_time.proofs.holds.turn_one.Goals as goal
 
 pub returns-in-Err-clause-counts : goal.returns-in-Err-clause-counts

@@ -2,7 +2,7 @@ use Rattle.std.proofs.Common.{arith}
 use Rattle.model_rows.specs.Usage.{redeemed}
 use Rattle.book_usage.proofs.Redeemed.{redeemed_le}
 use Rattle.book_indexes.proofs.EntryLemmas.{kept_at}
-use Rattle.book_counts_over_time.proofs.turns.redeemed_in.Goals as goal
+use Rattle.book_counts_over_time.proofs.redemptions.redeemed_in.Goals as goal
 
 pub returns-in-Ok-clause-value : goal.returns-in-Ok-clause-value
 returns-in-Ok-clause-value c =

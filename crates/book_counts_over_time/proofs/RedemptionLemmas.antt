@@ -14,7 +14,7 @@ use Rattle.model_rows.specs.declared.rows.Usage.{Usage}
 use Rattle.model_rows.specs.Conditions.{names}
 use Rattle.model_rows.specs.Lists.{Lists}
 use Rattle.model_rows.specs.Kept.{IsKept}
-use Rattle.book_counts_over_time.specs.Turns.{count_after_turn, turn, turn_each}
+use Rattle.book_counts_over_time.specs.Redemptions.{count_after_turn, turn, turn_each}
 use Rattle.book_indexes.proofs.EntryLemmas.{kept_at}
 
 turn_other : (up : Bool) (id : ℕ) (spent : ℕ → ℕ) (x : ℕ) → eqb x id ≡ false → turn up (Some id) spent x ≡ spent x

@@ -3,7 +3,7 @@
 ghost use Rattle.std.specs.Prelude.{◌≡◌, ◌≤◌};
 ghost use Rattle.model_rows.specs.Usage.{redeemed};
 ghost use Rattle.book_usage.specs.Limits.{most_listed};
-ghost use Rattle.book_counts_over_time.specs.Turns.{count_after_turn};
+ghost use Rattle.book_counts_over_time.specs.Redemptions.{count_after_turn};
 ghost use Rattle.book_counts_over_time.specs.Usages.{AreRedeemed};
 
 use base_tables::place_of;
