@@ -16,9 +16,9 @@ use Rattle.model_rows.specs.Kept.{IsKept}
 use Rattle.model_rows.specs.Lists.{Lists}
 use Rattle.model_rows.specs.Usage.{blocked_by, cart_counts, exit_counts, position_counts, redeemed, usage_of, waits_for}
 use Rattle.book_usage.specs.Shares.{blocked_share, cart_share, exited_share, status_share, waiting_share}
-use Rattle.book_counts_over_time.specs.Shifts.{block_shift, map_beside, count_moved, only}
+use Rattle.book_counts_over_time.specs.UsageUpdates.{block_shift, map_beside, count_moved, only}
 use Rattle.book_counts_over_time.proofs.OfProducts.{either}
-use Rattle.book_counts_over_time.proofs.ShiftLemmas.{map_beside_map}
+use Rattle.book_counts_over_time.proofs.UsageUpdateLemmas.{map_beside_map}
 use Rattle.book_counts_over_time.proofs.TouchedLemmas.{beside_alike, beside_beside, beside_same}
 use Rattle.book_counts_applied.specs.Fresh.{after_each, position_comes, cart_comes, entry_comes, voucher_comes}
 use Rattle.book_counts_applied.specs.Settled.{nothing, AreSmall}

@@ -8,7 +8,7 @@ use Rattle.model_rows.specs.declared.rows.Voucher.{Voucher}
 use Rattle.model_rows.specs.declared.rows.Waiting.{Waiting}
 use Rattle.model_rows.specs.Lists.{Lists}
 use Rattle.model_rows.specs.Usage.{redeemed}
-use Rattle.book_counts_over_time.specs.Shifts.{AreShifted, block_shift, cart_shift, waiting_shift}
+use Rattle.book_counts_over_time.specs.UsageUpdates.{AreShifted, block_shift, cart_shift, waiting_shift}
 use Rattle.book_counts_over_time.specs.Redemptions.{position_shift}
 
 -- a usage, once these rows came one after another

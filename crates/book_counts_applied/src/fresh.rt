@@ -4,14 +4,14 @@
 ghost use Rattle.std.specs.Prelude.{◌≡◌, ◌≤◌, ◌<◌, ◌++◌, [], ◌∷◌, length, map, vec_capacity, None, Some};
 ghost use Rattle.model_rows.specs.Headroom.{held};
 ghost use Rattle.model_rows.specs.Usage.{redeemed, spent};
-ghost use Rattle.book_counts_over_time.specs.Shifts.{block_shift, cart_shift, waiting_shift};
+ghost use Rattle.book_counts_over_time.specs.UsageUpdates.{block_shift, cart_shift, waiting_shift};
 ghost use Rattle.book_counts_over_time.specs.Redemptions.{position_shift};
 ghost use Rattle.book_counts_over_time.specs.Usages.{AreUsages, AreRedeemed};
 ghost use Rattle.book_counts_applied.specs.Fresh.{AllShifted, after_each, position_comes, cart_comes, entry_comes, voucher_comes};
 ghost use Rattle.book_counts_applied.specs.Settled.{nothing, AreSmall};
 
 use base_values::Moment;
-use book_counts_over_time::shift::{Shift, count_moved};
+use book_counts_over_time::shift::{UsageUpdate, count_moved};
 use book_counts_over_time::touched::{shift_hit, shift_product};
 use book_counts_over_time::redemptions::{redeemed_in, vouchers};
 use book_store::Store;
@@ -37,7 +37,7 @@ struct PositionComes<'s> {
     row: &'s OrderPos,
 }
 
-impl<'s> Shift for PositionComes<'s> {
+impl<'s> UsageUpdate for PositionComes<'s> {
     ghost shift = { λ s. position_shift s.store.now.state.lists (Some s.row.now) None };
 
     ghost ready = { λ s. Unit {0} };
@@ -72,7 +72,7 @@ struct CartComes<'s> {
     row: &'s CartPos,
 }
 
-impl<'s> Shift for CartComes<'s> {
+impl<'s> UsageUpdate for CartComes<'s> {
     ghost shift = { λ s. cart_shift s.store.now.state.lists s.at (Some s.row.now) None };
 
     ghost ready = { λ s. Unit {0} };
@@ -95,7 +95,7 @@ struct EntryComes<'s> {
     row: &'s Waiting,
 }
 
-impl<'s> Shift for EntryComes<'s> {
+impl<'s> UsageUpdate for EntryComes<'s> {
     ghost shift = { λ s. waiting_shift (Some s.row.now) None };
 
     ghost ready = { λ s. Unit {0} };
@@ -120,7 +120,7 @@ struct VoucherComes<'s> {
     row: &'s Voucher,
 }
 
-impl<'s> Shift for VoucherComes<'s> {
+impl<'s> UsageUpdate for VoucherComes<'s> {
     ghost shift = { λ s. block_shift s.at s.spent (Some s.row.now) None };
 
     ghost ready = { λ s. Unit {0} };

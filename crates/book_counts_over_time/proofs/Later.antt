@@ -18,7 +18,7 @@ use Rattle.model_rows.specs.Asked.{held_in}
 use Rattle.model_rows.specs.CameDue.{ends_between, is_due_cart, is_due_voucher, is_due_if, names_due_by, names_due, naming_due}
 use Rattle.book_counts_over_time.specs.Names.{passes_if, names_one}
 use Rattle.book_counts_over_time.specs.Later.{Stands, release_if, free_if, naming_if}
-use Rattle.book_counts_over_time.specs.Shifts.{count_moved, blocks_released, carts_freed, carts_lapsed, time_shift}
+use Rattle.book_counts_over_time.specs.UsageUpdates.{count_moved, blocks_released, carts_freed, carts_lapsed, time_shift}
 use Rattle.book_counts_over_time.proofs.Due.{has_lapsed, has_released, released_if, released_by, is_freed, carts_later, blocked_later}
 use Rattle.book_indexes.proofs.EntryLemmas.{sums_like}
 use Rattle.book_counts_over_time.proofs.ByName.{sum_by_name}

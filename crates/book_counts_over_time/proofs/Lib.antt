@@ -4,7 +4,7 @@ pub mod OfProducts
 pub mod ByName
 pub mod Due
 pub mod Later
-pub mod ShiftLemmas
+pub mod UsageUpdateLemmas
 pub mod Kept
 pub mod RedemptionLemmas
 pub mod HoldLemmas

@@ -13,7 +13,7 @@ use Rattle.model_rows.specs.Lists.{Lists, order_at}
 use Rattle.model_rows.specs.Usage.{is_covered, has_none, is_released, stands_as}
 use Rattle.book_usage.specs.Shares.{cart_share, exited_share, status_share, waiting_share}
 use Rattle.book_counts_over_time.specs.Redemptions.{position_shift}
-use Rattle.book_counts_over_time.specs.Shifts.{map_beside, only, count_moved, cart_shift, waiting_shift}
+use Rattle.book_counts_over_time.specs.UsageUpdates.{map_beside, only, count_moved, cart_shift, waiting_shift}
 use Rattle.book_counts_over_time.proofs.TouchedLemmas.{beside_alike}
 
 -- where a row isn't in the quota, nothing moves

@@ -12,7 +12,7 @@ use Rattle.model_rows.specs.declared.rows.Usage.{Usage}
 use Rattle.model_rows.specs.declared.rows.Voucher.{Voucher}
 use Rattle.model_rows.specs.Conditions.{hits, hits_by, hits_by_product}
 use Rattle.model_rows.proofs.Time.{eqb_flip}
-use Rattle.book_counts_over_time.specs.Shifts.{map_beside, only}
+use Rattle.book_counts_over_time.specs.UsageUpdates.{map_beside, only}
 
 module _ {X Y : Type 0} where
   -- one shift after another

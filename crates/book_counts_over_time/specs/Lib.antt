@@ -1,7 +1,7 @@
 pub mod Held
 pub mod Later
 pub mod Names
-pub mod Shifts
+pub mod UsageUpdates
 pub mod Spends
 pub mod Redemptions
 pub mod Beside

@@ -6,7 +6,7 @@ use Rattle.model_rows.specs.declared.rows.Usage.{Usage}
 use Rattle.model_rows.specs.Conditions.{names, is_paid, is_pending}
 use Rattle.model_rows.specs.Lists.{Lists}
 use Rattle.book_usage.specs.Shares.{status_share, exited_share}
-use Rattle.book_counts_over_time.specs.Shifts.{count_moved}
+use Rattle.book_counts_over_time.specs.UsageUpdates.{count_moved}
 
 -- a count with one more, or one less
 abbrev pub count_after_turn : Bool → ℕ → ℕ

@@ -6,14 +6,14 @@ ghost use Rattle.base_tables.specs.Tables.{with_row, without_row, AreInOrder};
 ghost use Rattle.model_catalogue.specs.declared.rows.Quota.{Quota};
 ghost use Rattle.model_rows.specs.declared.rows.Usage.{Usage};
 ghost use Rattle.book_counts_over_time.specs.Beside.{room_left};
-ghost use Rattle.book_counts_over_time.specs.Shifts.{count_moved};
+ghost use Rattle.book_counts_over_time.specs.UsageUpdates.{count_moved};
 
 use base_tables::{Row, place_of};
 use model_catalogue::Quota;
 use model_rows::Usage;
 
 /// What happens to the usage of a quota.
-pub trait Shift {
+pub trait UsageUpdate {
     /// The usage afterwards.
     ghost shift: { Self → Quota → Usage → Usage };
 

@@ -5,9 +5,9 @@ ghost use Rattle.base_tables.specs.Tables.{AreInOrder, has};
 ghost use Rattle.model_catalogue.specs.Member.{is_in};
 ghost use Rattle.model_rows.specs.Conditions.{hits, hits_by, hits_by_product};
 ghost use Rattle.book_counts_over_time.specs.Beside.{Stays};
-ghost use Rattle.book_counts_over_time.specs.Shifts.{AreShifted, only};
+ghost use Rattle.book_counts_over_time.specs.UsageUpdates.{AreShifted, only};
 
-use crate::shift::Shift;
+use crate::shift::UsageUpdate;
 use base_index::Found;
 use base_tables::place_of;
 use book_usage::Catalogue;
@@ -15,7 +15,7 @@ use model_catalogue::{Product, Quota};
 use model_rows::{Usage, Voucher};
 
 // Shifts the usage of the quota of an id, if it stands.
-fn shift_one<S: Shift>(quotas: &[Quota], usages: &mut Vec<Usage>, id: u64, shift: &S)
+fn shift_one<S: UsageUpdate>(quotas: &[Quota], usages: &mut Vec<Usage>, id: u64, shift: &S)
     requires order { AreInOrder (λ q. q.id) quotas.now }
     requires same { length usages.old.items ≡ length quotas.now }
     requires ready { S.ready shift.now }
@@ -30,7 +30,7 @@ fn shift_one<S: Shift>(quotas: &[Quota], usages: &mut Vec<Usage>, id: u64, shift
 }
 
 // Shifts the usages of the quotas of these ids.
-fn shift_each<S: Shift>(quotas: &[Quota], usages: &mut Vec<Usage>, ids: &Found<'_>, shift: &S)
+fn shift_each<S: UsageUpdate>(quotas: &[Quota], usages: &mut Vec<Usage>, ids: &Found<'_>, shift: &S)
     requires order { AreInOrder (λ q. q.id) quotas.now }
     requires rising { AreInOrder (λ n. n) ids.now }
     requires same { length usages.old.items ≡ length quotas.now }
@@ -45,7 +45,7 @@ fn shift_each<S: Shift>(quotas: &[Quota], usages: &mut Vec<Usage>, ids: &Found<'
 }
 
 /// Shifts the usages of the quotas that a product is in.
-pub fn shift_product<S: Shift>(
+pub fn shift_product<S: UsageUpdate>(
     catalogue: &Catalogue,
     usages: &mut Vec<Usage>,
     product: Product,
@@ -63,7 +63,7 @@ pub fn shift_product<S: Shift>(
 }
 
 /// Shifts the usages of the quotas that a voucher hits: the one that it names, or else those that have its product.
-pub fn shift_hit<S: Shift>(
+pub fn shift_hit<S: UsageUpdate>(
     catalogue: &Catalogue,
     usages: &mut Vec<Usage>,
     voucher: &Voucher,
@@ -85,7 +85,7 @@ pub fn shift_hit<S: Shift>(
 }
 
 // Shifts the usages of the quotas that a voucher's item and variation are in, where it has an item.
-fn shift_target<S: Shift>(
+fn shift_target<S: UsageUpdate>(
     catalogue: &Catalogue,
     usages: &mut Vec<Usage>,
     item: Option<u64>,

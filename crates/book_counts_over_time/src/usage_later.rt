@@ -11,7 +11,7 @@ ghost use Rattle.book_usage.specs.Limits.{last_use, most_listed};
 ghost use Rattle.book_store.specs.OneRow.{is_live_in};
 ghost use Rattle.book_store.specs.Walks.{one_if};
 ghost use Rattle.book_counts_over_time.specs.Later.{named_in, release_if, free_if, naming_if, with_release_steps, Stands};
-ghost use Rattle.book_counts_over_time.specs.Shifts.{count_moved, carts_lapsed, blocks_released, carts_freed, time_shift};
+ghost use Rattle.book_counts_over_time.specs.UsageUpdates.{count_moved, carts_lapsed, blocks_released, carts_freed, time_shift};
 ghost use Rattle.book_counts_over_time.specs.Usages.{AreRedeemed};
 
 use base_values::{Moment, Steps};

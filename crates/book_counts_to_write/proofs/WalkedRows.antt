@@ -23,10 +23,10 @@ use Rattle.model_rows.specs.Lists.{Lists, State, voucher_at}
 use Rattle.model_rows.specs.Usage.{usage_of, redeemed, spent}
 use Rattle.model_rows.proofs.EachRow.{all_weaker, key-row_at}
 use Rattle.model_rows.proofs.Found.{each_found}
-use Rattle.book_tally.specs.declared.shifts.QuotaShift.{QuotaShift}
-use Rattle.book_tally.specs.declared.shifts.VoucherShift.{VoucherShift}
-use Rattle.book_tally.specs.declared.shifts.Shifts.{Shifts}
-use Rattle.book_tally.specs.Shifts.{AreShifts, come_by, gone_by, come_used, gone_used, come_spent, gone_spent, stands_by, quota_shift_at, voucher_shift_at}
+use Rattle.book_tally.specs.declared.deltas.QuotaDelta.{QuotaDelta}
+use Rattle.book_tally.specs.declared.deltas.VoucherDelta.{VoucherDelta}
+use Rattle.book_tally.specs.declared.deltas.CountDeltas.{CountDeltas}
+use Rattle.book_tally.specs.CountDeltas.{AreCountDeltas, come_by, gone_by, come_used, gone_used, come_spent, gone_spent, stands_by, quota_delta_at, voucher_delta_at}
 use Rattle.book_tally.specs.Amounts.{nothing, plus}
 use Rattle.book_tally.proofs.AmountLemmas.{same_usage as same_amounts, alone as none_more}
 use Rattle.book_counts_to_write.specs.Due.{due_quotas}
@@ -49,7 +49,7 @@ found_stands id cat q found = ap (λ k. quota_at k cat) (key-row_at (λ (r : Quo
 -- ---- usages, count by count
 
 -- what came, without what went, is what is used afterwards
-shifted_is : (u v : Usage) (o : Option QuotaShift) → plus u (gone_by o) ≡ plus v (come_by o) → usage_shifted v o ≡ u
+shifted_is : (u v : Usage) (o : Option QuotaDelta) → plus u (gone_by o) ≡ plus v (come_by o) → usage_shifted v o ≡ u
 shifted_is u v o e =
     same_amounts (usage_shifted v o) u
     (omega (arith, ap (λ (w : Usage). w.paid) e))
@@ -102,7 +102,7 @@ rises ids given is = rw is (rising_in_order given)
 
 -- ---- a walk
 
-module _ (state : State) (changes : List Change) (next : NextIds) (at : ℕ) (past : state.moment ≤ at) (shifts : Shifts) (order : AreOrdered state.lists) (are : AreShifts state.lists (after_all changes state.lists) at shifts) where
+module _ (state : State) (changes : List Change) (next : NextIds) (at : ℕ) (past : state.moment ≤ at) (deltas : CountDeltas) (order : AreOrdered state.lists) (are : AreCountDeltas state.lists (after_all changes state.lists) at deltas) where
   abbrev before : Lists
   before = state.lists
 
@@ -120,13 +120,13 @@ module _ (state : State) (changes : List Change) (next : NextIds) (at : ℕ) (pa
 
   -- ---- its quotas
 
-  abbrev quotas : List QuotaShift
-  quotas = shifts.quotas.items
+  abbrev quotas : List QuotaDelta
+  quotas = deltas.quotas.items
 
   one_quota : (id : ℕ) (o : Option Quota) → quota_at id after.catalogue ≡ o → told_if (told_by_shift state at quotas) o ≡ told_if (quota_told both) o
   one_quota id None found = refl
   one_quota id (Some q) found =
-      let usage : usage_shifted (usage_of before at q) (quota_shift_at q.id quotas) ≡ usage_of after at q = shifted_is (usage_of after at q) (usage_of before at q) (quota_shift_at q.id quotas) (are.quotas q (found_stands id after.catalogue q found)) in
+      let usage : usage_shifted (usage_of before at q) (quota_delta_at q.id quotas) ≡ usage_of after at q = shifted_is (usage_of after at q) (usage_of before at q) (quota_delta_at q.id quotas) (are.quotas q (found_stands id after.catalogue q found)) in
       ap (λ (u : Usage). told_unless (has_count state (record { quota = q.id; usage = u })) (record { quota = q.id; usage = u })) usage
 
   each_quota : (ids : List ℕ) → flat_map (told_at state changes at quotas) ids ≡ flat_map (λ id. told_if (quota_told both) (quota_at id after.catalogue)) ids
@@ -137,8 +137,8 @@ module _ (state : State) (changes : List Change) (next : NextIds) (at : ℕ) (pa
   unasked : (q : Quota) → quota_at q.id after.catalogue ≡ Some q → has q.id (map (λ s. s.quota) quotas) ≡ false → has q.id (flat_map quotas_by changes) ≡ false → has q.id (due_quotas state.moment at before) ≡ false → quota_told both q ≡ []
   unasked q found unshifted unput undue =
       let stood : quota_at q.id before.catalogue ≡ Some q = sym (quota_stood q.id changes before unput) ∙ found in
-      let none = absent_none (λ (s : QuotaShift). s.quota) q.id quotas unshifted in
-      let shift : plus (usage_of after at q) nothing ≡ plus (usage_of before at q) nothing = subst (λ (o : Option QuotaShift). plus (usage_of after at q) (gone_by o) ≡ plus (usage_of before at q) (come_by o)) none (are.quotas q found) in
+      let none = absent_none (λ (s : QuotaDelta). s.quota) q.id quotas unshifted in
+      let shift : plus (usage_of after at q) nothing ≡ plus (usage_of before at q) nothing = subst (λ (o : Option QuotaDelta). plus (usage_of after at q) (gone_by o) ≡ plus (usage_of before at q) (come_by o)) none (are.quotas q found) in
       let used : usage_of after at q ≡ usage_of before state.moment q = sym (none_more (usage_of after at q)) ∙ shift ∙ none_more (usage_of before at q) ∙ used_alike state.moment at past before q stood undue order in
       let known : true ≡ has_count state (quota_count later q) =
       had_some state (quota_count later q) before.catalogue refl order.quotas q state.moment (usage_of before state.moment q) true stood refl refl
@@ -160,24 +160,24 @@ module _ (state : State) (changes : List Change) (next : NextIds) (at : ℕ) (pa
 
   -- ---- its vouchers
 
-  abbrev vouchers : List VoucherShift
-  vouchers = shifts.vouchers.items
+  abbrev vouchers : List VoucherDelta
+  vouchers = deltas.vouchers.items
 
-  found_each : AllByRecursion (λ s. voucher_shift_at s.voucher vouchers ≡ Some s) vouchers
-  found_each = each_found (λ (s : VoucherShift). s.voucher) 0 vouchers are.voucher_order
+  found_each : AllByRecursion (λ s. voucher_delta_at s.voucher vouchers ≡ Some s) vouchers
+  found_each = each_found (λ (s : VoucherDelta). s.voucher) 0 vouchers are.voucher_order
 
-  module _ (s : VoucherShift) (given : voucher_shift_at s.voucher vouchers ≡ Some s) where
+  module _ (s : VoucherDelta) (given : voucher_delta_at s.voucher vouchers ≡ Some s) where
     stands_as_told : is_some (voucher_at s.voucher after) ≡ s.stands
     stands_as_told = are.stands s.voucher ∙ ap (stands_by (is_some (voucher_at s.voucher before))) given
 
     used : (redeemed s.voucher before + s.come) - s.gone ≡ redeemed s.voucher after
     used =
-        let shift : redeemed s.voucher after + s.gone ≡ redeemed s.voucher before + s.come = subst (λ (o : Option VoucherShift). redeemed s.voucher after + gone_used o ≡ redeemed s.voucher before + come_used o) given (are.vouchers s.voucher) in
+        let shift : redeemed s.voucher after + s.gone ≡ redeemed s.voucher before + s.come = subst (λ (o : Option VoucherDelta). redeemed s.voucher after + gone_used o ≡ redeemed s.voucher before + come_used o) given (are.vouchers s.voucher) in
         omega (arith, shift)
 
     given_out : (spent s.voucher before + s.spent_come) - s.spent_gone ≡ spent s.voucher after
     given_out =
-        let shift : spent s.voucher after + s.spent_gone ≡ spent s.voucher before + s.spent_come = subst (λ (o : Option VoucherShift). spent s.voucher after + gone_spent o ≡ spent s.voucher before + come_spent o) given (are.spent s.voucher) in
+        let shift : spent s.voucher after + s.spent_gone ≡ spent s.voucher before + s.spent_come = subst (λ (o : Option VoucherDelta). spent s.voucher after + gone_spent o ≡ spent s.voucher before + come_spent o) given (are.spent s.voucher) in
         omega (arith, shift)
 
     -- what is told of a voucher of these counts
@@ -214,20 +214,20 @@ module _ (state : State) (changes : List Change) (next : NextIds) (at : ℕ) (pa
 
   -- a voucher that no shift names stands where it stood, is redeemed as often, and as much is spent of it
   module _ (id : ℕ) (absent : has id (map (λ s. s.voucher) vouchers) ≡ false) where
-    none : voucher_shift_at id vouchers ≡ None
-    none = absent_none (λ (s : VoucherShift). s.voucher) id vouchers absent
+    none : voucher_delta_at id vouchers ≡ None
+    none = absent_none (λ (s : VoucherDelta). s.voucher) id vouchers absent
 
     as_it_stood : is_some (voucher_at id after) ≡ is_some (voucher_at id before)
     as_it_stood = are.stands id ∙ ap (stands_by (is_some (voucher_at id before))) none
 
     used_as_before : redeemed id after ≡ redeemed id before
     used_as_before =
-        let shift : redeemed id after + 0 ≡ redeemed id before + 0 = subst (λ (o : Option VoucherShift). redeemed id after + gone_used o ≡ redeemed id before + come_used o) none (are.vouchers id) in
+        let shift : redeemed id after + 0 ≡ redeemed id before + 0 = subst (λ (o : Option VoucherDelta). redeemed id after + gone_used o ≡ redeemed id before + come_used o) none (are.vouchers id) in
         omega (arith, shift)
 
     spent_as_before : spent id after ≡ spent id before
     spent_as_before =
-        let shift : spent id after + 0 ≡ spent id before + 0 = subst (λ (o : Option VoucherShift). spent id after + gone_spent o ≡ spent id before + come_spent o) none (are.spent id) in
+        let shift : spent id after + 0 ≡ spent id before + 0 = subst (λ (o : Option VoucherDelta). spent id after + gone_spent o ≡ spent id before + come_spent o) none (are.spent id) in
         omega (arith, shift)
 
   unnamed : (v : Voucher) → voucher_at v.id after ≡ Some v → has v.id (map (λ s. s.voucher) vouchers) ≡ false → voucher_told both v ≡ []
@@ -253,18 +253,18 @@ module _ (state : State) (changes : List Change) (next : NextIds) (at : ℕ) (pa
   named = map (λ s. s.voucher) vouchers
 
   named_rise : AreInOrder (λ n. n) named
-  named_rise = ids_rise (λ (s : VoucherShift). s.voucher) 0 vouchers are.voucher_order
+  named_rise = ids_rise (λ (s : VoucherDelta). s.voucher) 0 vouchers are.voucher_order
 
   pub vouchers_walked : flat_map (voucher_told_by state) vouchers ≡ (counts_after state later).vouchers
   vouchers_walked =
-      by_ids (λ (s : VoucherShift). s.voucher) (voucher_told_by state) (λ id. told_if (voucher_told both) (voucher_at id after)) vouchers
-      (all_weaker (λ s. voucher_shift_at s.voucher vouchers ≡ Some s) (λ s. voucher_told_by state s ≡ told_if (voucher_told both) (voucher_at s.voucher after)) (λ s given. one_voucher s given (voucher_at s.voucher after) refl) vouchers found_each)
+      by_ids (λ (s : VoucherDelta). s.voucher) (voucher_told_by state) (λ id. told_if (voucher_told both) (voucher_at id after)) vouchers
+      (all_weaker (λ s. voucher_delta_at s.voucher vouchers ≡ Some s) (λ s. voucher_told_by state s ≡ told_if (voucher_told both) (voucher_at s.voucher after)) (λ s given. one_voucher s given (voucher_at s.voucher after) refl) vouchers found_each)
       ∙ chosen (λ (v : Voucher). v.id) (voucher_count later) (λ c. not (has_voucher state c)) after.vouchers named named_rise orders.vouchers unnamed
 
   pub gone_walked : flat_map (gone_told_by state) vouchers ≡ (counts_after state later).gone
   gone_walked =
-      by_ids (λ (s : VoucherShift). s.voucher) (gone_told_by state) (λ id. told_if (gone_told both) (voucher_at id before)) vouchers
-      (all_weaker (λ s. voucher_shift_at s.voucher vouchers ≡ Some s) (λ s. gone_told_by state s ≡ told_if (gone_told both) (voucher_at s.voucher before)) (λ s given. one_gone s given (voucher_at s.voucher before) refl) vouchers found_each)
+      by_ids (λ (s : VoucherDelta). s.voucher) (gone_told_by state) (λ id. told_if (gone_told both) (voucher_at id before)) vouchers
+      (all_weaker (λ s. voucher_delta_at s.voucher vouchers ≡ Some s) (λ s. gone_told_by state s ≡ told_if (gone_told both) (voucher_at s.voucher before)) (λ s given. one_gone s given (voucher_at s.voucher before) refl) vouchers found_each)
       ∙ chosen (λ (v : Voucher). v.id) (λ v. v.id) (λ id. is_none (voucher_at id after)) before.vouchers named named_rise order.vouchers ungone
 
 -- the four lists together
@@ -279,13 +279,13 @@ counts_are before after rows quotas asked exits vouchers gone rq re rv rg q a e 
     λ i. record { quotas = one i; exits = two i; vouchers = three i; gone = four i }
 
 -- what is told of a quota, where its usage by the rows before changes and what shifts it are known, and what the book has
-module _ (state : State) (order : AreOrdered state.lists) (at : ℕ) (quotas : List QuotaShift) (q : Quota) where
+module _ (state : State) (order : AreOrdered state.lists) (at : ℕ) (quotas : List QuotaDelta) (q : Quota) where
   known_has : (usage : Usage) (o : Option Quota) → quota_at q.id state.lists.catalogue ≡ o → same_as usage (option_map (usage_of state.lists state.moment) o) ≡ has_count state (record { quota = q.id; usage = usage })
   known_has usage None found = had_none state (record { quota = q.id; usage = usage }) state.lists.catalogue refl order.quotas found
   known_has usage (Some old) found = had_some state (record { quota = q.id; usage = usage }) state.lists.catalogue refl order.quotas old state.moment (usage_of state.lists state.moment old) (same_usage usage (usage_of state.lists state.moment old)) found refl refl refl
 
-  pub told_is : (base usage : Usage) (shift : Option QuotaShift) (had : Option Usage) → base ≡ usage_of state.lists at q → shift ≡ quota_shift_at q.id quotas → usage ≡ usage_shifted base shift → had ≡ option_map (usage_of state.lists state.moment) (quota_at q.id state.lists.catalogue) → told_unless (same_as usage had) (record { quota = q.id; usage = usage }) ≡ told_by_shift state at quotas q
+  pub told_is : (base usage : Usage) (shift : Option QuotaDelta) (had : Option Usage) → base ≡ usage_of state.lists at q → shift ≡ quota_delta_at q.id quotas → usage ≡ usage_shifted base shift → had ≡ option_map (usage_of state.lists state.moment) (quota_at q.id state.lists.catalogue) → told_unless (same_as usage had) (record { quota = q.id; usage = usage }) ≡ told_by_shift state at quotas q
   told_is base usage shift had base_is shift_is usage_is had_is =
-      let count : usage ≡ usage_shifted (usage_of state.lists at q) (quota_shift_at q.id quotas) = usage_is ∙ ap (λ (u : Usage). usage_shifted u shift) base_is ∙ ap (usage_shifted (usage_of state.lists at q)) shift_is in
+      let count : usage ≡ usage_shifted (usage_of state.lists at q) (quota_delta_at q.id quotas) = usage_is ∙ ap (λ (u : Usage). usage_shifted u shift) base_is ∙ ap (usage_shifted (usage_of state.lists at q)) shift_is in
       ap (λ b. told_unless b (record { quota = q.id; usage = usage })) (ap (same_as usage) had_is ∙ known_has usage (quota_at q.id state.lists.catalogue) refl)
       ∙ ap (λ (u : Usage). told_unless (has_count state (record { quota = q.id; usage = u })) (record { quota = q.id; usage = u })) count

@@ -13,10 +13,10 @@ use Rattle.model_rows.specs.Change.{after_all}
 use Rattle.model_rows.specs.CountRows.{same_usage}
 use Rattle.model_rows.specs.Lists.{State, voucher_at}
 use Rattle.model_rows.specs.Usage.{usage_of, redeemed, spent}
-use Rattle.book_tally.specs.declared.shifts.QuotaShift.{QuotaShift}
-use Rattle.book_tally.specs.declared.shifts.VoucherShift.{VoucherShift}
+use Rattle.book_tally.specs.declared.deltas.QuotaDelta.{QuotaDelta}
+use Rattle.book_tally.specs.declared.deltas.VoucherDelta.{VoucherDelta}
 use Rattle.book_tally.specs.Amounts.{plus}
-use Rattle.book_tally.specs.Shifts.{come_by, gone_by, quota_shift_at}
+use Rattle.book_tally.specs.CountDeltas.{come_by, gone_by, quota_delta_at}
 use Rattle.book_counts_to_write.specs.Told.{has_count, has_voucher, told_if, told_unless}
 
 -- the quota that a change puts
@@ -39,7 +39,7 @@ abbrev pub less : Usage → Usage → Usage
 less a b = record { paid = a.paid - b.paid; pending = a.pending - b.pending; blocked = a.blocked - b.blocked; carts = a.carts - b.carts; waiting = a.waiting - b.waiting; exited = a.exited - b.exited }
 
 -- a usage, with what came and without what went
-abbrev pub usage_shifted : Usage → Option QuotaShift → Usage
+abbrev pub usage_shifted : Usage → Option QuotaDelta → Usage
 usage_shifted usage shift = less (plus usage (come_by shift)) (gone_by shift)
 
 -- a usage is the one that was known
@@ -52,19 +52,19 @@ abbrev pub used_now : State → Quota → Usage
 used_now state quota = usage_of state.lists state.moment quota
 
 -- the count of a quota at a moment, by the rows before changes and what these shift
-abbrev pub count_by_shift : State → ℕ → List QuotaShift → Quota → QuotaCount
-count_by_shift state at shifts quota = record { quota = quota.id; usage = usage_shifted (usage_of state.lists at quota) (quota_shift_at quota.id shifts) }
+abbrev pub count_by_shift : State → ℕ → List QuotaDelta → Quota → QuotaCount
+count_by_shift state at deltas quota = record { quota = quota.id; usage = usage_shifted (usage_of state.lists at quota) (quota_delta_at quota.id deltas) }
 
 -- the count of a quota by the shifts, unless it was the same before
-abbrev pub told_by_shift : State → ℕ → List QuotaShift → Quota → List QuotaCount
-told_by_shift state at shifts quota = told_unless (has_count state (count_by_shift state at shifts quota)) (count_by_shift state at shifts quota)
+abbrev pub told_by_shift : State → ℕ → List QuotaDelta → Quota → List QuotaCount
+told_by_shift state at deltas quota = told_unless (has_count state (count_by_shift state at deltas quota)) (count_by_shift state at deltas quota)
 
 -- the count by the shifts of the quota of an id after changes, if there is one, unless it was the same before
-abbrev pub told_at : State → List Change → ℕ → List QuotaShift → ℕ → List QuotaCount
-told_at state changes at shifts id = told_if (told_by_shift state at shifts) (quota_at id (after_all changes state.lists).catalogue)
+abbrev pub told_at : State → List Change → ℕ → List QuotaDelta → ℕ → List QuotaCount
+told_at state changes at deltas id = told_if (told_by_shift state at deltas) (quota_at id (after_all changes state.lists).catalogue)
 
 -- how often a voucher is redeemed, and what is spent of it, by the rows before and what changes shift
-abbrev pub voucher_by_shift : State → VoucherShift → VoucherCount
+abbrev pub voucher_by_shift : State → VoucherDelta → VoucherCount
 voucher_by_shift state shift = record {
   voucher = shift.voucher;
   redeemed = (redeemed shift.voucher state.lists + shift.come) - shift.gone;
@@ -72,11 +72,11 @@ voucher_by_shift state shift = record {
 }
 
 -- that is told, if the voucher stands, unless it was the same before
-abbrev pub voucher_told_by : State → VoucherShift → List VoucherCount
+abbrev pub voucher_told_by : State → VoucherDelta → List VoucherCount
 voucher_told_by state shift = if shift.stands then told_unless (has_voucher state (voucher_by_shift state shift)) (voucher_by_shift state shift) else []
 
 -- and its id, if it stood and doesn't stand any more
-abbrev pub gone_told_by : State → VoucherShift → List ℕ
+abbrev pub gone_told_by : State → VoucherDelta → List ℕ
 gone_told_by state shift = if not shift.stands && is_some (voucher_at shift.voucher state.lists) then shift.voucher ∷ [] else []
 
 -- that ids rise has one proof at most, as a ghost field asks

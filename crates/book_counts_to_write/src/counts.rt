@@ -3,13 +3,13 @@
 ghost use Rattle.std.specs.Prelude.{◌≡◌, ◌≤◌, IfOk};
 ghost use Rattle.model_rows.specs.Change.{changes_applied, after_all};
 ghost use Rattle.model_rows.specs.CountRows.{counts_after};
-ghost use Rattle.book_tally.specs.Shifts.{AreShifts};
+ghost use Rattle.book_tally.specs.CountDeltas.{AreCountDeltas};
 
 use crate::due::due_quotas;
 use crate::exits::exits_that_differ;
 use crate::walk::{Walk, ids_rise, put_quotas};
 use base_values::Moment;
-use book_tally::Shifts;
+use book_tally::CountDeltas;
 use book_usage::Dues;
 use model_rows::{Changes, CountRows};
 use std::alloc::{AllocError, Global};
@@ -24,12 +24,12 @@ pub fn counts_by_shifts<B: Dues>(
     book: &B,
     alloc: Global,
     changes: &Changes,
-    shifts: &Shifts,
+    deltas: &CountDeltas,
     at: Moment,
 ) -> Result<CountRows, AllocError>
     requires moment { (B.state book.now).moment ≤ at }
-    requires shifts { AreShifts (B.state book.now).lists
-        (after_all changes.now.list (B.state book.now).lists) at shifts.now }
+    requires deltas { AreCountDeltas (B.state book.now).lists
+        (after_all changes.now.list (B.state book.now).lists) at deltas.now }
     ensures { IfOk result (λ rows. rows
         ≡ counts_after (B.state book.now) (changes_applied changes.now at (B.state book.now))) }
 {
@@ -40,7 +40,7 @@ pub fn counts_by_shifts<B: Dues>(
     let walk = Walk {
         book,
         changes,
-        shifts,
+        deltas,
         at,
         put: &put,
         due: &due,

@@ -7,7 +7,7 @@ ghost use Rattle.model_rows.specs.Usage.{redeemed, spent};
 ghost use Rattle.book_counts_to_write.specs.Told.{Adds, has_count, has_exits, has_voucher, told_unless};
 ghost use Rattle.book_counts_to_write.specs.Walked.{usage_shifted, same_as};
 
-use book_tally::QuotaShift;
+use book_tally::QuotaDelta;
 use book_usage::{Book, usage_of};
 use model_rows::{QuotaCount, Usage, VoucherCount};
 use std::alloc::AllocError;
@@ -53,7 +53,7 @@ pub fn fitting(amount: u128) -> Result<u64, AllocError>
 }
 
 /// A usage, with what came by a shift and without what went, if there is one.
-pub fn usage_shifted(usage: Usage, shift: Option<&QuotaShift>) -> Result<Usage, AllocError>
+pub fn usage_shifted(usage: Usage, shift: Option<&QuotaDelta>) -> Result<Usage, AllocError>
     ensures { IfOk result (λ new. new ≡ usage_shifted usage (option_copied shift.entry)) }
 {
     match shift {
@@ -62,7 +62,7 @@ pub fn usage_shifted(usage: Usage, shift: Option<&QuotaShift>) -> Result<Usage, 
     }
 }
 
-fn shifted_by(usage: Usage, shift: &QuotaShift) -> Result<Usage, AllocError>
+fn shifted_by(usage: Usage, shift: &QuotaDelta) -> Result<Usage, AllocError>
     ensures { IfOk result (λ new. new ≡ usage_shifted usage (Some shift.now)) }
 {
     let come = &shift.come;

@@ -8,7 +8,7 @@ ghost use Rattle.base_tables.specs.Tables.{AreInOrder};
 ghost use Rattle.model_catalogue.specs.CatalogueLists.{quota_at};
 ghost use Rattle.model_rows.specs.Change.{after_all};
 ghost use Rattle.model_rows.specs.Usage.{usage_of};
-ghost use Rattle.book_tally.specs.Shifts.{quota_shift_at};
+ghost use Rattle.book_tally.specs.CountDeltas.{quota_delta_at};
 ghost use Rattle.book_counts_to_write.specs.Due.{due_quotas};
 ghost use Rattle.book_counts_to_write.specs.Told.{Adds, AreOrdered};
 ghost use Rattle.book_counts_to_write.specs.Walked.{quotas_by, quota_with, quota_after, told_by_shift, told_at, voucher_told_by, gone_told_by, used_now, in_order_prop};
@@ -17,7 +17,7 @@ use crate::recounts::recount;
 use crate::told::{add_unless, has_voucher, moved, moved_cents, same_as, usage_shifted};
 use base_tables::{Ids, place_of};
 use base_values::Moment;
-use book_tally::{QuotaShift, Shifts, VoucherShift};
+use book_tally::{QuotaDelta, CountDeltas, VoucherDelta};
 use book_usage::{Book, usage_of};
 use model_catalogue::Quota;
 use model_rows::{Change, QuotaCount, Usage, VoucherCount};
@@ -29,12 +29,12 @@ use std::alloc::{AllocError, Global};
 pub struct Walk<'w, B: Book> {
     pub book: &'w B,
     pub changes: &'w [Change],
-    pub shifts: &'w Shifts,
+    pub deltas: &'w CountDeltas,
     pub at: Moment,
     pub put: &'w Ids,
     pub due: &'w Ids,
     ghost past: { (B.state book.now).moment ≤ at },
-    ghost order: { AreInOrder (λ s. s.quota) shifts.now.quotas.items } by { in_order_prop (λ s. s.quota) 0 shifts.now.quotas.items },
+    ghost order: { AreInOrder (λ s. s.quota) deltas.now.quotas.items } by { in_order_prop (λ s. s.quota) 0 deltas.now.quotas.items },
     ghost puts: { put.now ≡ rising (flat_map quotas_by changes.now) },
     ghost dues: { due.now
         ≡ rising (due_quotas (B.state book.now).moment at (B.state book.now).lists) },
@@ -51,10 +51,10 @@ impl<'w, B: Book> Walk<'w, B> {
     /// The quotas whose counts may differ: those of the shifts, those that changes put, and those that what came due reaches.
     pub fn asked(&self, alloc: Global) -> Result<Ids, AllocError>
         ensures { IfOk result (λ ids. ids
-            ≡ rising (map (λ s. s.quota) self.now.shifts.now.quotas.items
+            ≡ rising (map (λ s. s.quota) self.now.deltas.now.quotas.items
             ++ self.now.put.now ++ self.now.due.now)) }
     {
-        let mut ids = ids_of(alloc, &self.shifts.quotas)?;
+        let mut ids = ids_of(alloc, &self.deltas.quotas)?;
         ids.extend_from_slice(self.put.as_slice())?;
         ids.extend_from_slice(self.due.as_slice())?;
         Ok(Ids::sorted(ids))
@@ -64,7 +64,7 @@ impl<'w, B: Book> Walk<'w, B> {
     pub fn quotas(&self, alloc: Global, ids: &[u64]) -> Result<Vec<QuotaCount>, AllocError>
         ensures { IfOk result (λ rows. rows.items ≡ flat_map
             (told_at (B.state self.now.book.now) self.now.changes.now self.now.at
-            self.now.shifts.now.quotas.items)
+            self.now.deltas.now.quotas.items)
             ids.now) }
     {
         let mut rows = Vec::new(alloc);
@@ -77,7 +77,7 @@ impl<'w, B: Book> Walk<'w, B> {
     // Adds the count of the quota of an id, if it stands and its count differs.
     fn add_quota(&self, id: u64, rows: &mut Vec<QuotaCount>) -> Result<(), AllocError>
         ensures { Adds result rows.old rows.new (told_at (B.state self.now.book.now)
-            self.now.changes.now self.now.at self.now.shifts.now.quotas.items id) }
+            self.now.changes.now self.now.at self.now.deltas.now.quotas.items id) }
     {
         match self.quota(id) {
             None => Ok(()),
@@ -88,11 +88,11 @@ impl<'w, B: Book> Walk<'w, B> {
     // Adds the count of a quota, if it differs.
     fn add_count(&self, quota: &Quota, rows: &mut Vec<QuotaCount>) -> Result<(), AllocError>
         ensures { Adds result rows.old rows.new (told_by_shift
-            (B.state self.now.book.now) self.now.at self.now.shifts.now.quotas.items quota.now) }
+            (B.state self.now.book.now) self.now.at self.now.deltas.now.quotas.items quota.now) }
     {
         ids_rise(self.book);
         let known = self.known(quota);
-        let usage = usage_shifted(known.base, shift_of(&self.shifts.quotas, quota.id))?;
+        let usage = usage_shifted(known.base, shift_of(&self.deltas.quotas, quota.id))?;
         let count = QuotaCount {
             quota: quota.id,
             usage,
@@ -175,10 +175,10 @@ impl<'w, B: Book> Walk<'w, B> {
     /// The counts of the vouchers that are new or whose counts differ.
     pub fn vouchers(&self, alloc: Global) -> Result<Vec<VoucherCount>, AllocError>
         ensures { IfOk result (λ rows. rows.items ≡ flat_map
-            (voucher_told_by (B.state self.now.book.now)) self.now.shifts.now.vouchers.items) }
+            (voucher_told_by (B.state self.now.book.now)) self.now.deltas.now.vouchers.items) }
     {
         let mut rows = Vec::new(alloc);
-        for shift in self.shifts.vouchers.as_slice() {
+        for shift in self.deltas.vouchers.as_slice() {
             add_voucher(self.book, shift, &mut rows)?;
         }
         Ok(rows)
@@ -187,10 +187,10 @@ impl<'w, B: Book> Walk<'w, B> {
     /// The ids of the vouchers that are gone.
     pub fn gone(&self, alloc: Global) -> Result<Vec<u64>, AllocError>
         ensures { IfOk result (λ ids. ids.items ≡ flat_map
-            (gone_told_by (B.state self.now.book.now)) self.now.shifts.now.vouchers.items) }
+            (gone_told_by (B.state self.now.book.now)) self.now.deltas.now.vouchers.items) }
     {
         let mut ids = Vec::new(alloc);
-        for shift in self.shifts.vouchers.as_slice() {
+        for shift in self.deltas.vouchers.as_slice() {
             add_gone(self.book, shift, &mut ids)?;
         }
         Ok(ids)
@@ -206,10 +206,10 @@ pub fn ids_rise<B: Book>(book: &B)
 }
 
 // The ids of the quotas of these shifts.
-fn ids_of(alloc: Global, shifts: &[QuotaShift]) -> Result<Vec<u64>, AllocError>
-    ensures { IfOk result (λ ids. ids.items ≡ map (λ s. s.quota) shifts.now) }
+fn ids_of(alloc: Global, deltas: &[QuotaDelta]) -> Result<Vec<u64>, AllocError>
+    ensures { IfOk result (λ ids. ids.items ≡ map (λ s. s.quota) deltas.now) }
 {
-    shifts.iter().map(|shift| shift.quota).collect(alloc)
+    deltas.iter().map(|shift| shift.quota).collect(alloc)
 }
 
 /// The quotas that changes put.
@@ -255,12 +255,12 @@ fn quota_with<'c>(change: &'c Change, id: u64, before: Option<&'c Quota>) -> Opt
 }
 
 // What is shifted of a quota, if anything is.
-fn shift_of(shifts: &[QuotaShift], quota: u64) -> Option<&QuotaShift>
-    requires { AreInOrder (λ s. s.quota) shifts.now }
-    ensures { option_copied result ≡ quota_shift_at quota shifts.now }
+fn shift_of(deltas: &[QuotaDelta], quota: u64) -> Option<&QuotaDelta>
+    requires { AreInOrder (λ s. s.quota) deltas.now }
+    ensures { option_copied result ≡ quota_delta_at quota deltas.now }
 {
-    match place_of(shifts, quota) {
-        Ok(place) => Some(&shifts[place]),
+    match place_of(deltas, quota) {
+        Ok(place) => Some(&deltas[place]),
         Err(_) => None,
     }
 }
@@ -286,7 +286,7 @@ fn same(a: &[u64], b: &[u64]) -> bool
 // Adds the count of a voucher, if it stands and its count differs.
 fn add_voucher<B: Book>(
     book: &B,
-    shift: &VoucherShift,
+    shift: &VoucherDelta,
     rows: &mut Vec<VoucherCount>,
 ) -> Result<(), AllocError>
     ensures { Adds result rows.old rows.new (voucher_told_by (B.state book.now) shift.now) }
@@ -304,7 +304,7 @@ fn add_voucher<B: Book>(
 }
 
 // Adds the id of a voucher that stood, if it doesn't stand any more.
-fn add_gone<B: Book>(book: &B, shift: &VoucherShift, ids: &mut Vec<u64>) -> Result<(), AllocError>
+fn add_gone<B: Book>(book: &B, shift: &VoucherDelta, ids: &mut Vec<u64>) -> Result<(), AllocError>
     ensures { Adds result ids.old ids.new (gone_told_by (B.state book.now) shift.now) }
 {
     if !shift.stands && book.voucher(shift.voucher).is_some() {

@@ -4,9 +4,9 @@
 #![tactic(auto)]
 
 pub mod amount;
-pub mod shifts;
+pub mod deltas;
 pub mod tally;
 
 pub use amount::{Amount, Uses};
-pub use shifts::{Drafted, QuotaShift, Shifts, VoucherShift};
+pub use deltas::{Drafted, QuotaDelta, CountDeltas, VoucherDelta};
 pub use tally::{Count, Tally};

@@ -24,13 +24,13 @@ use Rattle.draft_counts.specs.Counts.{value_at}
 use Rattle.draft_counts.specs.Logs.{Log, rows_of}
 use Rattle.draft_counts.proofs.Values.{value_here}
 use Rattle.book_tally.specs.declared.amount.Uses.{Uses}
-use Rattle.book_tally.specs.declared.shifts.QuotaShift.{QuotaShift}
-use Rattle.book_tally.specs.declared.shifts.VoucherShift.{VoucherShift}
-use Rattle.book_tally.specs.declared.shifts.Shifts.{Shifts}
+use Rattle.book_tally.specs.declared.deltas.QuotaDelta.{QuotaDelta}
+use Rattle.book_tally.specs.declared.deltas.VoucherDelta.{VoucherDelta}
+use Rattle.book_tally.specs.declared.deltas.CountDeltas.{CountDeltas}
 use Rattle.book_tally.specs.declared.tally.Count.{Count}
 use Rattle.book_tally.specs.Amounts.{nothing, plus, no_uses}
 use Rattle.book_tally.specs.Counts.{newest, came, went, part_at}
-use Rattle.book_tally.specs.Shifts.{come_by, gone_by, come_used, gone_used, come_spent, gone_spent, stands_by, quota_shift_at, voucher_shift_at, AreShifts}
+use Rattle.book_tally.specs.CountDeltas.{come_by, gone_by, come_used, gone_used, come_spent, gone_spent, stands_by, quota_delta_at, voucher_delta_at, AreCountDeltas}
 use Rattle.draft_changes.specs.DraftState.{IsCounted, AreKept}
 use Rattle.draft_changes.specs.Handed.{vouchers_by, AreNoted, quota_shift, voucher_shift}
 
@@ -93,17 +93,17 @@ place_of id (q ∷ qs) quota found = by_test (eqb q.id id) found (place_of id qs
 
 -- ---- the quotas
 module _ (quotas : List Quota) (counts : List (Count Usage)) where
-  abbrev one : ℕ → Quota → QuotaShift
+  abbrev one : ℕ → Quota → QuotaDelta
   one place quota = record { quota = quota.id; come = came nothing place counts; gone = went nothing place counts }
 
   at_place : (place : ℕ) (d : Quota) → place < length quotas → quota_shift quotas counts place ≡ one place (get_or quotas place d) ∷ []
   at_place place d lt = value_here [] (λ (q : Quota). one place q ∷ []) quotas place d lt
 
-  abbrev shifted : ℕ → Usage → Usage → List QuotaShift
+  abbrev shifted : ℕ → Usage → Usage → List QuotaDelta
   shifted id come gone = record { quota = id; come = come; gone = gone } ∷ []
 
   -- what is told of the quota there
-  pub told_at : (place : ℕ) (q : Quota) (come gone : Usage) → place < length quotas → q ≡ get_or quotas place q → come ≡ came nothing place counts → gone ≡ went nothing place counts → ◌≡◌ {A = List QuotaShift} (record { quota = q.id; come = come; gone = gone } ∷ []) (quota_shift quotas counts place)
+  pub told_at : (place : ℕ) (q : Quota) (come gone : Usage) → place < length quotas → q ≡ get_or quotas place q → come ≡ came nothing place counts → gone ≡ went nothing place counts → ◌≡◌ {A = List QuotaDelta} (record { quota = q.id; come = come; gone = gone } ∷ []) (quota_shift quotas counts place)
   told_at place q come gone lt is comes goes =
       ap₂ (λ (a b : Usage). shifted q.id a b) comes goes ∙ ap (λ (r : Quota). one place r ∷ []) is ∙ sym (at_place place q lt)
 
@@ -114,10 +114,10 @@ module _ (quotas : List Quota) (counts : List (Count Usage)) where
         let d = pick quotas p lt in
         let q = get_or quotas p d in
         let rest = shifts_rise n ps (p + 1) (q.id + 1) order h.1 (λ p' d' le within. above p' d' le within lt) in
-        subst (λ (l : List QuotaShift). InOrderFrom (λ (s : QuotaShift). s.quota) b (l ++ flat_map (quota_shift quotas counts) ps)) (sym (at_place p d lt)) (low p d h.0 lt, rest)
+        subst (λ (l : List QuotaDelta). InOrderFrom (λ (s : QuotaDelta). s.quota) b (l ++ flat_map (quota_shift quotas counts) ps)) (sym (at_place p d lt)) (low p d h.0 lt, rest)
     | inr past ↦
         let rest = shifts_rise n ps (p + 1) b order h.1 (λ p' d' le within. low p' d' (omega (arith, h.0, le)) within) in
-        subst (λ (l : List QuotaShift). InOrderFrom (λ (s : QuotaShift). s.quota) b (l ++ flat_map (quota_shift quotas counts) ps)) (sym (past_end [] (λ (q : Quota). one p q ∷ []) quotas p past)) rest
+        subst (λ (l : List QuotaDelta). InOrderFrom (λ (s : QuotaDelta). s.quota) b (l ++ flat_map (quota_shift quotas counts) ps)) (sym (past_end [] (λ (q : Quota). one p q ∷ []) quotas p past)) rest
   ]
     where
       above : (p' : ℕ) (d' : Quota) → p + 1 ≤ p' → p' < length quotas → (lt : p < length quotas) → (get_or quotas p (pick quotas p lt)).id + 1 ≤ (get_or quotas p' d').id
@@ -125,19 +125,19 @@ module _ (quotas : List Quota) (counts : List (Count Usage)) where
           let same = ap (λ (q : Quota). q.id) (get_or_default quotas p (pick quotas p lt) d' lt) in
           omega (arith, rise (λ (r : Quota). r.id) n quotas p p' d' order (omega (arith, le)) within, same)
 
-  pub shift_found : (n : ℕ) (places : List ℕ) (place : ℕ) (quota : Quota) → InOrderFrom (λ r. r.id) n quotas → place < length quotas → get_or quotas place quota ≡ quota → quota_shift_at quota.id (flat_map (quota_shift quotas counts) places) ≡ (if has place places then Some (one place quota) else None)
+  pub shift_found : (n : ℕ) (places : List ℕ) (place : ℕ) (quota : Quota) → InOrderFrom (λ r. r.id) n quotas → place < length quotas → get_or quotas place quota ≡ quota → quota_delta_at quota.id (flat_map (quota_shift quotas counts) places) ≡ (if has place places then Some (one place quota) else None)
   shift_found n [] place quota order within is = refl
   shift_found n (p ∷ ps) place quota order within is = by_place (cases_lt p (length quotas)) (shift_found n ps place quota order within is)
     where
-      goal : List QuotaShift → Type 0
-      goal l = quota_shift_at quota.id (l ++ flat_map (quota_shift quotas counts) ps) ≡ (if eqb p place || has place ps then Some (one place quota) else None)
+      goal : List QuotaDelta → Type 0
+      goal l = quota_delta_at quota.id (l ++ flat_map (quota_shift quotas counts) ps) ≡ (if eqb p place || has place ps then Some (one place quota) else None)
 
-      here : (lt : p < length quotas) → ((eqb p place ≡ true) × (p ≡ place)) ⊎ ((eqb p place ≡ false) × (p ≢ place)) → quota_shift_at quota.id (flat_map (quota_shift quotas counts) ps) ≡ (if has place ps then Some (one place quota) else None) → goal (one p (get_or quotas p quota) ∷ [])
+      here : (lt : p < length quotas) → ((eqb p place ≡ true) × (p ≡ place)) ⊎ ((eqb p place ≡ false) × (p ≢ place)) → quota_delta_at quota.id (flat_map (quota_shift quotas counts) ps) ≡ (if has place ps then Some (one place quota) else None) → goal (one p (get_or quotas p quota) ∷ [])
       here lt (inl same) rest =
           let row : get_or quotas p quota ≡ quota = ap (λ (n : ℕ). get_or quotas n quota) same.1 ∙ is in
           let own : eqb (get_or quotas p quota).id quota.id ≡ true = grind (arith, nat_tests, ap (λ (q : Quota). q.id) row) in
           let first : one p (get_or quotas p quota) ≡ one place quota = ap (one p) row ∙ ap (λ (n : ℕ). one n quota) same.1 in
-          rw (own, same.0) (ap (λ (s : QuotaShift). Some s) first)
+          rw (own, same.0) (ap (λ (s : QuotaDelta). Some s) first)
       here lt (inr other) rest =
           let apart : eqb (get_or quotas p quota).id quota.id ≡ false = differ (cases_lt p place) in
           rw (apart, other.0) rest
@@ -146,7 +146,7 @@ module _ (quotas : List Quota) (counts : List (Count Usage)) where
           differ (inl below) = let less = rise (λ (r : Quota). r.id) n quotas p place quota order below within in grind (arith, nat_tests, less, ap (λ (q : Quota). q.id) is)
           differ (inr above) = let less = rise (λ (r : Quota). r.id) n quotas place p quota order (grind (arith, nat_tests, above, other.1)) lt in grind (arith, nat_tests, less, ap (λ (q : Quota). q.id) is)
 
-      by_place : (p < length quotas) ⊎ (length quotas ≤ p) → quota_shift_at quota.id (flat_map (quota_shift quotas counts) ps) ≡ (if has place ps then Some (one place quota) else None) → goal (quota_shift quotas counts p)
+      by_place : (p < length quotas) ⊎ (length quotas ≤ p) → quota_delta_at quota.id (flat_map (quota_shift quotas counts) ps) ≡ (if has place ps then Some (one place quota) else None) → goal (quota_shift quotas counts p)
       by_place (inl lt) rest = subst goal (sym (at_place p quota lt)) (here lt (eqb_tells p place) rest)
       by_place (inr past) rest =
           let other : eqb p place ≡ false = grind (arith, nat_tests, past, within) in
@@ -154,7 +154,7 @@ module _ (quotas : List Quota) (counts : List (Count Usage)) where
 
   -- what is told of a quota is what came and went of its place
   pub told : (n : ℕ) (places : List ℕ) (place : ℕ) (quota : Quota) → InOrderFrom (λ r. r.id) n quotas → place < length quotas → get_or quotas place quota ≡ quota → places ≡ rising (map (λ c. c.id) counts)
-      → (come_by (quota_shift_at quota.id (flat_map (quota_shift quotas counts) places)) ≡ came nothing place counts) × (gone_by (quota_shift_at quota.id (flat_map (quota_shift quotas counts) places)) ≡ went nothing place counts)
+      → (come_by (quota_delta_at quota.id (flat_map (quota_shift quotas counts) places)) ≡ came nothing place counts) × (gone_by (quota_delta_at quota.id (flat_map (quota_shift quotas counts) places)) ≡ went nothing place counts)
   told n places place quota order within is all =
       let found = shift_found n places place quota order within is in
       let known : has place places ≡ has place (map (λ c. c.id) counts) = ap (has place) all ∙ has-rising place (map (λ c. c.id) counts) in
@@ -167,7 +167,7 @@ module _ (quotas : List Quota) (counts : List (Count Usage)) where
 
 -- ---- the vouchers
 module _ (lists : Lists) (uses : List (Count Uses)) where
-  abbrev of_voucher : ℕ → VoucherShift
+  abbrev of_voucher : ℕ → VoucherDelta
   of_voucher id = record {
     voucher = id;
     come = (came no_uses id uses).used;
@@ -181,11 +181,11 @@ module _ (lists : Lists) (uses : List (Count Uses)) where
   uses_rise n [] h = tt
   uses_rise n (id ∷ ids) h = (h.0, uses_rise (id + 1) ids h.1)
 
-  pub use_found : (ids : List ℕ) (v : ℕ) → voucher_shift_at v (flat_map (voucher_shift lists uses) ids) ≡ (if has v ids then Some (of_voucher v) else None)
+  pub use_found : (ids : List ℕ) (v : ℕ) → voucher_delta_at v (flat_map (voucher_shift lists uses) ids) ≡ (if has v ids then Some (of_voucher v) else None)
   use_found [] v = refl
   use_found (id ∷ ids) v = by_id (eqb_tells id v) (use_found ids v)
     where
-      by_id : ((eqb id v ≡ true) × (id ≡ v)) ⊎ ((eqb id v ≡ false) × (id ≢ v)) → voucher_shift_at v (flat_map (voucher_shift lists uses) ids) ≡ (if has v ids then Some (of_voucher v) else None) → (let o : Option VoucherShift = if eqb id v then Some (of_voucher id) else voucher_shift_at v (flat_map (voucher_shift lists uses) ids) in o) ≡ (if eqb id v || has v ids then Some (of_voucher v) else None)
+      by_id : ((eqb id v ≡ true) × (id ≡ v)) ⊎ ((eqb id v ≡ false) × (id ≢ v)) → voucher_delta_at v (flat_map (voucher_shift lists uses) ids) ≡ (if has v ids then Some (of_voucher v) else None) → (let o : Option VoucherDelta = if eqb id v then Some (of_voucher id) else voucher_delta_at v (flat_map (voucher_shift lists uses) ids) in o) ≡ (if eqb id v || has v ids then Some (of_voucher v) else None)
       by_id (inl same) rest = rw same.0 (ap (λ (k : ℕ). Some (of_voucher k)) same.1)
       by_id (inr other) rest = rw other.0 rest
 
@@ -221,9 +221,9 @@ module _ (log : Log) (at : ℕ) (counts : List (Count Usage)) (uses : List (Coun
   quotas = log.base.catalogue.quotas
 
   pub handed : IsCounted at log counts → AreKept at log uses → AreNoted log.changes noted → AreInOrder (λ r. r.id) log.base.catalogue.quotas → (rows_of log).catalogue ≡ log.base.catalogue
-      → (places ids : List ℕ) (shifts : Shifts) → places ≡ rising (map (λ c. c.id) counts) → ids ≡ rising (noted ++ map (λ c. c.id) uses)
-      → shifts.quotas.items ≡ flat_map (quota_shift log.base.catalogue.quotas counts) places → shifts.vouchers.items ≡ flat_map (voucher_shift (rows_of log) uses) ids → AreShifts log.base (rows_of log) at shifts
-  handed counted kept are order same places ids shifts places_are ids_are quotas_are vouchers_are =
+      → (places ids : List ℕ) (deltas : CountDeltas) → places ≡ rising (map (λ c. c.id) counts) → ids ≡ rising (noted ++ map (λ c. c.id) uses)
+      → deltas.quotas.items ≡ flat_map (quota_shift log.base.catalogue.quotas counts) places → deltas.vouchers.items ≡ flat_map (voucher_shift (rows_of log) uses) ids → AreCountDeltas log.base (rows_of log) at deltas
+  handed counted kept are order same places ids deltas places_are ids_are quotas_are vouchers_are =
       record {
         quotas = λ q stands. quota_is q (place_of q.id quotas q (ap (quota_at q.id) (sym same) ∙ stands));
         vouchers = λ v. use_is v (has v ids) refl;
@@ -233,7 +233,7 @@ module _ (log : Log) (at : ℕ) (counts : List (Count Usage)) (uses : List (Coun
         voucher_order = rw vouchers_are (uses_rise (rows_of log) uses 0 ids (rw ids_are (rising_in_order (noted ++ map (λ c. c.id) uses))));
       }
     where
-      quota_is : (q : Quota) → IsAt quotas q → plus (usage_of (rows_of log) at q) (gone_by (quota_shift_at q.id shifts.quotas.items)) ≡ plus (usage_of log.base at q) (come_by (quota_shift_at q.id shifts.quotas.items))
+      quota_is : (q : Quota) → IsAt quotas q → plus (usage_of (rows_of log) at q) (gone_by (quota_delta_at q.id deltas.quotas.items)) ≡ plus (usage_of log.base at q) (come_by (quota_delta_at q.id deltas.quotas.items))
       quota_is q found =
           let tells = told quotas counts 0 places found.place q order found.within found.is places_are in
           let value = λ (lists : Lists). value_here nothing (usage_of lists at) quotas found.place q found.within ∙ ap (usage_of lists at) found.is in
@@ -250,9 +250,9 @@ module _ (log : Log) (at : ℕ) (counts : List (Count Usage)) (uses : List (Coun
           let both = neither (has v noted) (has v (map (λ (c : Count Uses). c.id) uses)) (sym (has-append v noted (map (λ (c : Count Uses). c.id) uses)) ∙ sym (has-rising v (noted ++ map (λ (c : Count Uses). c.id) uses)) ∙ sym (ap (has v) ids_are) ∙ none) in
           (both.0, untouched_key v uses both.1)
 
-      use_is : (v : ℕ) (b : Bool) → has v ids ≡ b → redeemed v (rows_of log) + gone_used (voucher_shift_at v shifts.vouchers.items) ≡ redeemed v log.base + come_used (voucher_shift_at v shifts.vouchers.items)
+      use_is : (v : ℕ) (b : Bool) → has v ids ≡ b → redeemed v (rows_of log) + gone_used (voucher_delta_at v deltas.vouchers.items) ≡ redeemed v log.base + come_used (voucher_delta_at v deltas.vouchers.items)
       use_is v b is =
-          let found : voucher_shift_at v shifts.vouchers.items ≡ (if b then Some (of_voucher (rows_of log) uses v) else None) = ap (voucher_shift_at v) vouchers_are ∙ use_found (rows_of log) uses ids v ∙ ap (λ (x : Bool). if x then Some (of_voucher (rows_of log) uses v) else None) is in
+          let found : voucher_delta_at v deltas.vouchers.items ≡ (if b then Some (of_voucher (rows_of log) uses v) else None) = ap (voucher_delta_at v) vouchers_are ∙ use_found (rows_of log) uses ids v ∙ ap (λ (x : Bool). if x then Some (of_voucher (rows_of log) uses v) else None) is in
           rw found (by_test b is)
         where
           by_test : (b : Bool) → has v ids ≡ b → redeemed v (rows_of log) + gone_used (if b then Some (of_voucher (rows_of log) uses v) else None) ≡ redeemed v log.base + come_used (if b then Some (of_voucher (rows_of log) uses v) else None)
@@ -263,9 +263,9 @@ module _ (log : Log) (at : ℕ) (counts : List (Count Usage)) (uses : List (Coun
               let went_none : (went no_uses v uses).used ≡ 0 = ap (λ (o : Option ℕ). (part_at no_uses (λ (c : Count Uses). c.gone) uses o).used) none in
               omega (arith, ap (λ (u : Uses). u.used) (kept v), came_none, went_none)
 
-      spent_is : (v : ℕ) (b : Bool) → has v ids ≡ b → spent v (rows_of log) + gone_spent (voucher_shift_at v shifts.vouchers.items) ≡ spent v log.base + come_spent (voucher_shift_at v shifts.vouchers.items)
+      spent_is : (v : ℕ) (b : Bool) → has v ids ≡ b → spent v (rows_of log) + gone_spent (voucher_delta_at v deltas.vouchers.items) ≡ spent v log.base + come_spent (voucher_delta_at v deltas.vouchers.items)
       spent_is v b is =
-          let found : voucher_shift_at v shifts.vouchers.items ≡ (if b then Some (of_voucher (rows_of log) uses v) else None) = ap (voucher_shift_at v) vouchers_are ∙ use_found (rows_of log) uses ids v ∙ ap (λ (x : Bool). if x then Some (of_voucher (rows_of log) uses v) else None) is in
+          let found : voucher_delta_at v deltas.vouchers.items ≡ (if b then Some (of_voucher (rows_of log) uses v) else None) = ap (voucher_delta_at v) vouchers_are ∙ use_found (rows_of log) uses ids v ∙ ap (λ (x : Bool). if x then Some (of_voucher (rows_of log) uses v) else None) is in
           rw found (by_test b is)
         where
           by_test : (b : Bool) → has v ids ≡ b → spent v (rows_of log) + gone_spent (if b then Some (of_voucher (rows_of log) uses v) else None) ≡ spent v log.base + come_spent (if b then Some (of_voucher (rows_of log) uses v) else None)
@@ -276,9 +276,9 @@ module _ (log : Log) (at : ℕ) (counts : List (Count Usage)) (uses : List (Coun
               let went_none : (went no_uses v uses).spent ≡ 0 = ap (λ (o : Option ℕ). (part_at no_uses (λ (c : Count Uses). c.gone) uses o).spent) none in
               omega (arith, ap (λ (u : Uses). u.spent) (kept v), came_none, went_none)
 
-      stands_is : (v : ℕ) (b : Bool) → has v ids ≡ b → is_some (voucher_at v (rows_of log)) ≡ stands_by (is_some (voucher_at v log.base)) (voucher_shift_at v shifts.vouchers.items)
+      stands_is : (v : ℕ) (b : Bool) → has v ids ≡ b → is_some (voucher_at v (rows_of log)) ≡ stands_by (is_some (voucher_at v log.base)) (voucher_delta_at v deltas.vouchers.items)
       stands_is v b is =
-          let found : voucher_shift_at v shifts.vouchers.items ≡ (if b then Some (of_voucher (rows_of log) uses v) else None) = ap (voucher_shift_at v) vouchers_are ∙ use_found (rows_of log) uses ids v ∙ ap (λ (x : Bool). if x then Some (of_voucher (rows_of log) uses v) else None) is in
+          let found : voucher_delta_at v deltas.vouchers.items ≡ (if b then Some (of_voucher (rows_of log) uses v) else None) = ap (voucher_delta_at v) vouchers_are ∙ use_found (rows_of log) uses ids v ∙ ap (λ (x : Bool). if x then Some (of_voucher (rows_of log) uses v) else None) is in
           rw found (by_test b is)
         where
           by_test : (b : Bool) → has v ids ≡ b → is_some (voucher_at v (rows_of log)) ≡ stands_by (is_some (voucher_at v log.base)) (if b then Some (of_voucher (rows_of log) uses v) else None)

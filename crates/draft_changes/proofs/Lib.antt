@@ -1,10 +1,10 @@
 pub mod CanCome
-pub mod Shifts
+pub mod CountDeltas
 pub mod Asked
 pub mod Found
 pub mod Overs
 pub mod Still
 pub mod Extensions
-pub mod Standing
+pub mod RowCounts
 pub mod HandedLemmas
 pub mod Reaches

@@ -17,14 +17,14 @@ use Rattle.book_tally.specs.Amounts.{nothing, plus, no_uses, plus_uses}
 use Rattle.book_tally.specs.Counts.{came, went}
 use Rattle.book_tally.proofs.AmountLemmas.{stepped, stepped_uses, total_both}
 use Rattle.draft_counts.specs.Counts.{value_at, IsMore, AreMoreUses}
-use Rattle.draft_counts.specs.Shift.{come_of, gone_of}
+use Rattle.draft_counts.specs.CountDelta.{come_of, gone_of}
 use Rattle.draft_counts.specs.Uses.{uses_of, use_come, use_gone}
 use Rattle.draft_counts.proofs.Values.{values_add, value_of}
 use Rattle.draft_counts.proofs.UseShifts.{use_step}
 use Rattle.draft_changes.specs.CanCome.{CanCome}
 use Rattle.draft_changes.specs.DraftState.{IsCounted, IsTotalled, AreKept}
 use Rattle.draft_changes.specs.Used.{places_used, usage_raised}
-use Rattle.draft_changes.proofs.Shifts.{one_step}
+use Rattle.draft_changes.proofs.CountDeltas.{one_step}
 
 -- of each quota those who have gone out are among the paid ones
 within_at : (lists : Lists) (at : ℕ) (quotas : List Quota) (place : ℕ) → (value_at nothing (usage_of lists at) quotas place).exited ≤ (value_at nothing (usage_of lists at) quotas place).paid

@@ -12,7 +12,7 @@ use Rattle.book_tally.specs.declared.amount.Uses.{Uses}
 use Rattle.book_tally.specs.declared.tally.Count.{Count}
 use Rattle.book_tally.specs.Amounts.{nothing, plus, no_uses, plus_uses}
 use Rattle.book_tally.specs.Counts.{came, went}
-use Rattle.draft_counts.specs.declared.tallies.Reach.{Reach}
+use Rattle.draft_counts.specs.declared.tallies.JournalMark.{JournalMark}
 use Rattle.draft_counts.specs.Counts.{value_at}
 use Rattle.draft_counts.specs.Tallied.{Tallied, reach_at, tallied_at}
 use Rattle.draft_counts.specs.Uses.{uses_of}
@@ -71,7 +71,7 @@ pub record IsTallied (at : ℕ) (log : Log) (tallied : Tallied) : Type 0 where
   pub each : length tallied.reached ≡ length log.changes
 
 -- a reach is no further than the other
-pub record IsBelow (reach other : Reach) : Type 0 where
+pub record IsBelow (reach other : JournalMark) : Type 0 where
   pub counts : reach.counts ≤ other.counts
   pub uses : reach.uses ≤ other.uses
 

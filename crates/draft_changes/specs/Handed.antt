@@ -7,8 +7,8 @@ use Rattle.model_rows.specs.declared.changes.Change.TheVariants.{PutVoucher, Dro
 use Rattle.model_rows.specs.declared.rows.Usage.{Usage}
 use Rattle.model_rows.specs.Lists.{Lists, voucher_at}
 use Rattle.book_tally.specs.declared.amount.Uses.{Uses}
-use Rattle.book_tally.specs.declared.shifts.QuotaShift.{QuotaShift}
-use Rattle.book_tally.specs.declared.shifts.VoucherShift.{VoucherShift}
+use Rattle.book_tally.specs.declared.deltas.QuotaDelta.{QuotaDelta}
+use Rattle.book_tally.specs.declared.deltas.VoucherDelta.{VoucherDelta}
 use Rattle.book_tally.specs.declared.tally.Count.{Count}
 use Rattle.book_tally.specs.Amounts.{nothing, no_uses}
 use Rattle.book_tally.specs.Counts.{came, went}
@@ -25,11 +25,11 @@ abbrev pub AreNoted : List Change → List ℕ → Type 0
 AreNoted changes noted = (v : ℕ) → has v noted ≡ false → has v (flat_map vouchers_by changes) ≡ false
 
 -- what came and went of the quota at a place, where there is one
-abbrev pub quota_shift : List Quota → List (Count Usage) → ℕ → List QuotaShift
+abbrev pub quota_shift : List Quota → List (Count Usage) → ℕ → List QuotaDelta
 quota_shift quotas counts place = value_at [] (λ q. record { quota = q.id; come = came nothing place counts; gone = went nothing place counts } ∷ []) quotas place
 
 -- what came and went of a voucher's uses in orders, what they spend of it, and whether it stands
-abbrev pub voucher_shift : Lists → List (Count Uses) → ℕ → List VoucherShift
+abbrev pub voucher_shift : Lists → List (Count Uses) → ℕ → List VoucherDelta
 voucher_shift lists uses id = record {
   voucher = id;
   come = (came no_uses id uses).used;

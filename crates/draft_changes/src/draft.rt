@@ -10,7 +10,7 @@ ghost use Rattle.model_rows.specs.Change.{change_applied};
 ghost use Rattle.draft_changes.specs.DraftState.{DraftState, MarkState, IsMarkOf, Extends, Makes, now, back, with_change};
 ghost use Rattle.draft_counts.specs.Logs.{rows_of};
 ghost use Rattle.draft_changes.specs.CanCome.{CanCome};
-ghost use Rattle.book_tally.specs.Shifts.{AreShifts};
+ghost use Rattle.book_tally.specs.CountDeltas.{AreCountDeltas};
 ghost use Rattle.model_rows.specs.Usage.{redeemed, spent, usage_of, waits_for};
 ghost use Rattle.model_rows.specs.Total.{total};
 ghost use Rattle.model_catalogue.specs.CatalogueLists.{quota_at};
@@ -400,8 +400,8 @@ impl<'a, B: Book> Draft<'a, B> {
     pub fn finish(self, alloc: Global) -> Result<Drafted, AllocError>
         ensures list { IfOk result (λ d. d.changes.list ≡ self.entry.log.changes) }
         ensures next { IfOk result (λ d. d.changes.next ≡ self.entry.next) }
-        ensures shifts { IfOk result (λ d.
-            AreShifts self.entry.log.base (rows_of self.entry.log) self.entry.moment d.shifts) }
+        ensures deltas { IfOk result (λ d.
+            AreCountDeltas self.entry.log.base (rows_of self.entry.log) self.entry.moment d.deltas) }
     {
         let Draft {
             book,
@@ -415,9 +415,9 @@ impl<'a, B: Book> Draft<'a, B> {
         } = self;
         match shifts_of(book, &overlay, alloc, moment, &tallies, &noted) {
             Err(refused) => Err(refused),
-            Ok(shifts) => Ok(Drafted {
+            Ok(deltas) => Ok(Drafted {
                 changes: Changes::new(overlay.into_log(), next),
-                shifts,
+                deltas,
             }),
         }
     }

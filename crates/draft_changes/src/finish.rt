@@ -3,13 +3,13 @@
 ghost use Rattle.std.specs.Prelude.{◌≡◌, ◌++◌, IfOk, OnOk, OnErr, map, flat_map};
 ghost use Rattle.base_tables.specs.Rising.{rising};
 ghost use Rattle.draft_counts.specs.Logs.{rows_of};
-ghost use Rattle.book_tally.specs.Shifts.{AreShifts};
+ghost use Rattle.book_tally.specs.CountDeltas.{AreCountDeltas};
 ghost use Rattle.draft_changes.specs.DraftState.{IsCounted, AreKept};
 ghost use Rattle.draft_changes.specs.Handed.{vouchers_by, AreNoted, quota_shift, voucher_shift};
 
 use base_tables::Ids;
 use base_values::Moment;
-use book_tally::{Amount, QuotaShift, Shifts, Tally, Uses, VoucherShift};
+use book_tally::{Amount, QuotaDelta, CountDeltas, Tally, Uses, VoucherDelta};
 use book_usage::{Book, LookUps};
 use draft_counts::{Overlay, Tallies};
 use model_catalogue::Quota;
@@ -36,12 +36,12 @@ pub fn shifts_of<B: Book>(
     at: Moment,
     tallies: &Tallies,
     noted: &[u64],
-) -> Result<Shifts, AllocError>
+) -> Result<CountDeltas, AllocError>
     requires base { overlay.now.base ≡ (B.state book.now).lists }
     requires counted { IsCounted at overlay.now tallies.now.counts }
     requires kept { AreKept at overlay.now tallies.now.uses }
     requires noted { AreNoted overlay.now.changes noted.now }
-    ensures { IfOk result (λ shifts. AreShifts overlay.now.base (rows_of overlay.now) at shifts) }
+    ensures { IfOk result (λ deltas. AreCountDeltas overlay.now.base (rows_of overlay.now) at deltas) }
 {
     let _ = at;
     overlay.known();
@@ -53,7 +53,7 @@ pub fn shifts_of<B: Book>(
     let uses = tallies.uses();
     let ids = touched_vouchers(alloc, uses, noted)?;
     let vouchers = voucher_shifts(alloc, overlay, uses, ids.as_slice())?;
-    Ok(Shifts { quotas, vouchers })
+    Ok(CountDeltas { quotas, vouchers })
 }
 
 // The places of the quotas that were touched.
@@ -90,7 +90,7 @@ fn quota_shifts(
     quotas: &[Quota],
     counts: &Tally<Usage>,
     places: &[u64],
-) -> Result<Vec<QuotaShift>, AllocError>
+) -> Result<Vec<QuotaDelta>, AllocError>
     ensures { IfOk result (λ rows. rows.items
         ≡ flat_map (quota_shift quotas.now counts.now) places.now) }
 {
@@ -106,7 +106,7 @@ fn add_quota(
     quotas: &[Quota],
     counts: &Tally<Usage>,
     place: u64,
-    rows: &mut Vec<QuotaShift>,
+    rows: &mut Vec<QuotaDelta>,
 ) -> Result<(), AllocError>
     ensures { OnOk result (rows.new.items
         ≡ rows.old.items ++ quota_shift quotas.now counts.now place) }
@@ -116,7 +116,7 @@ fn add_quota(
         return Ok(());
     }
     let count = counts.of(place);
-    Ok(rows.push(QuotaShift {
+    Ok(rows.push(QuotaDelta {
         quota: quotas[index].id,
         come: count.come,
         gone: count.gone,
@@ -129,7 +129,7 @@ fn voucher_shifts<B: Book>(
     overlay: &Overlay<'_, B>,
     uses: &Tally<Uses>,
     ids: &[u64],
-) -> Result<Vec<VoucherShift>, AllocError>
+) -> Result<Vec<VoucherDelta>, AllocError>
     ensures { IfOk result (λ rows. rows.items
         ≡ flat_map (voucher_shift (rows_of overlay.now) uses.now) ids.now) }
 {
@@ -145,13 +145,13 @@ fn add_voucher<B: Book>(
     overlay: &Overlay<'_, B>,
     uses: &Tally<Uses>,
     id: u64,
-    rows: &mut Vec<VoucherShift>,
+    rows: &mut Vec<VoucherDelta>,
 ) -> Result<(), AllocError>
     ensures { OnOk result (rows.new.items
         ≡ rows.old.items ++ voucher_shift (rows_of overlay.now) uses.now id) }
 {
     let count = uses.of(id);
-    Ok(rows.push(VoucherShift {
+    Ok(rows.push(VoucherDelta {
         voucher: id,
         come: count.come.used,
         gone: count.gone.used,

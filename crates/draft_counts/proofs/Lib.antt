@@ -1,6 +1,6 @@
 pub mod Values
 mod Sums
-mod RowCounts
+mod RowCountLemmas
 mod Reached
 pub mod UseShifts
 mod UseCounts

@@ -20,7 +20,7 @@ use Rattle.model_rows.proofs.LastPassages.{last_put}
 use Rattle.book_tally.specs.Amounts.{nothing}
 use Rattle.book_usage.specs.Shares.{exited_share}
 use Rattle.draft_counts.specs.declared.shift.Spot.{Spot}
-use Rattle.draft_counts.specs.Shift.{once, is_free_in}
+use Rattle.draft_counts.specs.CountDelta.{once, is_free_in}
 
 fewer : (here free : Bool) → once (here && free) ≤ once here
 fewer true true = omega arith

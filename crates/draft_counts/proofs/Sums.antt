@@ -9,7 +9,7 @@ use Rattle.model_rows.specs.Conditions.{is_paid, is_pending, is_in_force}
 use Rattle.model_rows.specs.Usage.{stands_as}
 use Rattle.book_tally.specs.Amounts.{nothing}
 use Rattle.book_tally.proofs.AmountLemmas.{same_usage}
-use Rattle.draft_counts.specs.Shift.{order_counts, sold_as, usage_of_places, unless_kept}
+use Rattle.draft_counts.specs.CountDelta.{order_counts, sold_as, usage_of_places, unless_kept}
 
 -- an order without positions counts nothing
 pub none_ordered : (order other : Option Order) → order_counts order other 0 0 0 ≡ nothing

@@ -13,7 +13,7 @@ use Rattle.model_rows.specs.Lists.{Lists}
 use Rattle.model_rows.specs.declared.rows.Usage.{Usage}
 use Rattle.book_tally.specs.declared.tally.Count.{Count}
 use Rattle.draft_counts.specs.Counts.{IsMore}
-use Rattle.draft_counts.specs.Shift.{come_of, gone_of}
+use Rattle.draft_counts.specs.CountDelta.{come_of, gone_of}
 use Rattle.draft_counts.proofs.Values.{none_more}
 
 module _ (lists : Lists) (at : ℕ) (quotas : List Quota) (counts : List (Count Usage)) where

@@ -25,7 +25,7 @@ use Rattle.book_usage.specs.Shares.{held_name, used_name}
 use Rattle.book_usage.proofs.Redeemed.{named, redeemed_order, redeemed_position}
 use Rattle.book_tally.specs.Amounts.{plus_uses}
 use Rattle.book_tally.proofs.AmountLemmas.{same_uses}
-use Rattle.draft_counts.specs.Shift.{keeps_status}
+use Rattle.draft_counts.specs.CountDelta.{keeps_status}
 use Rattle.draft_counts.specs.Uses.{uses_of, one_use, one_discount, ordered_discounts, use_come, use_gone}
 
 held_is : (at v : ℕ) (cart : Option CartPos) → sum_at (λ c. if holds at v c then 1 else 0) cart ≡ one_use v (held_name at cart)

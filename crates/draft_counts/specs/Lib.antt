@@ -1,6 +1,6 @@
 pub mod Counts
 pub mod Uses
-pub mod Shift
+pub mod CountDelta
 pub mod Touched
 pub mod Tallied
 pub mod Logs

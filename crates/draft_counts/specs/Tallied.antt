@@ -7,10 +7,10 @@ use Rattle.model_catalogue.specs.Kept.{CatalogueTables}
 use Rattle.model_rows.specs.Lists.{Lists}
 use Rattle.model_rows.specs.Change.{after_change}
 use Rattle.draft_overlay.specs.Logs.{Log, rows_of}
-use Rattle.draft_counts.specs.declared.tallies.Reach.{Reach}
-use Rattle.draft_counts.specs.declared.tallies.Standing.{Standing}
+use Rattle.draft_counts.specs.declared.tallies.JournalMark.{JournalMark}
+use Rattle.draft_counts.specs.declared.tallies.RowCounts.{RowCounts}
 use Rattle.draft_counts.specs.Counts.{IsMore, AreMoreUses}
-use Rattle.draft_counts.specs.Shift.{come_of, gone_of}
+use Rattle.draft_counts.specs.CountDelta.{come_of, gone_of}
 use Rattle.draft_counts.specs.Uses.{use_come, use_gone}
 use Rattle.book_tally.specs.declared.amount.Uses.{Uses}
 use Rattle.book_tally.specs.declared.tally.Count.{Count}
@@ -19,15 +19,15 @@ use Rattle.book_tally.specs.declared.tally.Count.{Count}
 pub record Tallied : Type 0 where
   pub counts : List (Count Usage)
   pub uses : List (Count Uses)
-  pub here : Standing
-  pub reached : List Reach
+  pub here : RowCounts
+  pub reached : List JournalMark
 
 -- how far they reach now
-abbrev pub reach_now : Tallied → Reach
+abbrev pub reach_now : Tallied → JournalMark
 reach_now tallied = record { counts = length tallied.counts; uses = length tallied.uses; here = tallied.here }
 
 -- how far they reached after so many changes
-abbrev pub reach_at : ℕ → Tallied → Reach
+abbrev pub reach_at : ℕ → Tallied → JournalMark
 reach_at count tallied = slice_index_or tallied.reached count (reach_now tallied)
 
 -- what was counted after so many changes

@@ -8,9 +8,9 @@ ghost use Rattle.model_rows.specs.Passages.{is_out};
 ghost use Rattle.draft_overlay.specs.Logs.{rows_of};
 ghost use Rattle.book_tally.specs.Amounts.{nothing};
 ghost use Rattle.draft_counts.specs.Counts.{IsMore};
-ghost use Rattle.draft_counts.specs.Shift.{once, is_free_in, checkin_come, checkin_gone};
+ghost use Rattle.draft_counts.specs.CountDelta.{once, is_free_in, checkin_come, checkin_gone};
 
-use crate::basis::Basis;
+use crate::count_base::CountBase;
 use crate::share::{Share, Shares, count_each};
 use crate::touched::touch_product;
 use book_tally::{Amount, Tally};
@@ -71,32 +71,32 @@ fn exited(is: bool) -> Usage
 
 /// Counts a new check-in, where its position is of a paid order and goes out with it or comes back.
 pub fn with_checkin<B: Book>(
-    basis: &Basis<'_, '_, B>,
+    count_base: &CountBase<'_, '_, B>,
     counts: &mut Tally<Usage>,
     row: &Checkin,
 ) -> Result<(), AllocError>
-    requires new { checkin_at row.now.id (rows_of basis.now.overlay.now) ≡ None }
+    requires new { checkin_at row.now.id (rows_of count_base.now.overlay.now) ≡ None }
     ensures more { OnOk result (IsMore
-        (checkin_come (rows_of basis.now.overlay.now) row.now)
-        (checkin_gone (rows_of basis.now.overlay.now) row.now)
-        basis.now.catalogue.now.lists.quotas counts.old counts.new) }
+        (checkin_come (rows_of count_base.now.overlay.now) row.now)
+        (checkin_gone (rows_of count_base.now.overlay.now) row.now)
+        count_base.now.catalogue.now.lists.quotas counts.old counts.new) }
     ensures err { OnErr result (counts.new ≡ counts.old) }
 {
-    let Some(position) = basis.overlay.position(row.position) else {
+    let Some(position) = count_base.overlay.position(row.position) else {
         return Ok(());
     };
-    if !is_paid(basis.overlay.order(position.order)) {
+    if !is_paid(count_base.overlay.order(position.order)) {
         return Ok(());
     }
-    let come = is_out_after(basis.overlay, row);
-    let gone = basis.overlay.is_out(row.position);
+    let come = is_out_after(count_base.overlay, row);
+    let gone = count_base.overlay.is_out(row.position);
     if !come && !gone {
         return Ok(());
     }
     count_each(
         counts,
-        basis.alloc,
-        basis.catalogue,
+        count_base.alloc,
+        count_base.catalogue,
         &CheckinTurn {
             product: position.product,
             come,

@@ -1,7 +1,7 @@
 //! What does a change bring to each count of a quota and to a voucher's uses, and what does it take?
 #![tactic(auto)]
 
-mod basis;
+mod count_base;
 mod checkins;
 mod numbers;
 mod orders;
@@ -12,4 +12,4 @@ mod touched;
 mod uses;
 
 pub use draft_overlay::Overlay;
-pub use tallies::{Reach, Standing, Tallies};
+pub use tallies::{JournalMark, RowCounts, Tallies};

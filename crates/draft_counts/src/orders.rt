@@ -9,9 +9,9 @@ ghost use Rattle.model_rows.specs.Usage.{is_covered_by, blocks_if};
 ghost use Rattle.draft_overlay.specs.Logs.{rows_of};
 ghost use Rattle.draft_counts.specs.Tallied.{CountsChange};
 ghost use Rattle.draft_counts.specs.Touched.{NoOther, NoneElse, Keeps};
-ghost use Rattle.draft_counts.specs.Shift.{count_here, count_covered, count_released, is_free_in, order_counts, keeps_status, AreTurned};
+ghost use Rattle.draft_counts.specs.CountDelta.{count_here, count_covered, count_released, is_free_in, order_counts, keeps_status, AreTurned};
 
-use crate::basis::Basis;
+use crate::count_base::CountBase;
 use crate::checkins::is_free_in;
 use crate::share::{Share, Shares, count_each};
 use crate::shift::{Spot, voucher_of};
@@ -185,30 +185,30 @@ fn spots_of<'o, B: Book>(
 
 /// Counts the positions of an order that stands in the place of its id, where it counts otherwise than the one before it.
 pub fn with_order<B: Book>(
-    basis: &Basis<'_, '_, B>,
+    count_base: &CountBase<'_, '_, B>,
     counts: &mut Tally<Usage>,
     row: &Order,
     purchases: &[Purchase],
 ) -> Result<(), AllocError>
-    requires turned { AreTurned (PutOrder row.now) (rows_of basis.now.overlay.now) purchases.now }
-    ensures more { OnOk result (CountsChange (PutOrder row.now) basis.now.overlay.now
-        basis.now.at basis.now.catalogue.now counts.old counts.new) }
+    requires turned { AreTurned (PutOrder row.now) (rows_of count_base.now.overlay.now) purchases.now }
+    ensures more { OnOk result (CountsChange (PutOrder row.now) count_base.now.overlay.now
+        count_base.now.at count_base.now.catalogue.now counts.old counts.new) }
     ensures err { OnErr result (counts.new ≡ counts.old) }
 {
-    let gone = basis.overlay.order(row.id);
+    let gone = count_base.overlay.order(row.id);
     if keeps_status(row, gone) {
         return Ok(());
     }
     if purchases.is_empty() {
         return Ok(());
     }
-    let spots = spots_of(basis.overlay, basis.alloc, purchases)?;
+    let spots = spots_of(count_base.overlay, count_base.alloc, purchases)?;
     count_each(
         counts,
-        basis.alloc,
-        basis.catalogue,
+        count_base.alloc,
+        count_base.catalogue,
         &OrderTurn {
-            at: basis.at,
+            at: count_base.at,
             come: row,
             gone,
             spots,

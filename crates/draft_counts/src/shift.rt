@@ -16,9 +16,9 @@ ghost use Rattle.book_tally.specs.Amounts.{nothing};
 ghost use Rattle.draft_counts.specs.Counts.{IsMore};
 ghost use Rattle.draft_counts.specs.Tallied.{CountsChange};
 ghost use Rattle.draft_counts.specs.Touched.{NoOther, NoneElse, Keeps};
-ghost use Rattle.draft_counts.specs.Shift.{once, spot_share, spot_counts, usage_of_places, cart_come, cart_gone, waiting_come, waiting_gone, sold_as, left_of, voucher_counts, voucher_come, voucher_gone, AreTurned};
+ghost use Rattle.draft_counts.specs.CountDelta.{once, spot_share, spot_counts, usage_of_places, cart_come, cart_gone, waiting_come, waiting_gone, sold_as, left_of, voucher_counts, voucher_come, voucher_gone, AreTurned};
 
-use crate::basis::Basis;
+use crate::count_base::CountBase;
 use crate::checkins::with_checkin;
 use crate::orders::with_order;
 use crate::share::{Share, Shares, count_each};
@@ -36,27 +36,27 @@ use std::alloc::{AllocError, Global};
 /// they were.
 #[tactic(auto, unfolding(book_usage::specs::Shares::cart_share, book_usage::specs::Shares::waiting_share))]
 pub fn count_change<B: Book>(
-    basis: &Basis<'_, '_, B>,
+    count_base: &CountBase<'_, '_, B>,
     counts: &mut Tally<Usage>,
     change: &Change,
     purchases: &[Purchase],
 ) -> Result<(), AllocError>
-    requires sale { IsSale change.now (rows_of basis.now.overlay.now) }
-    requires turned { AreTurned change.now (rows_of basis.now.overlay.now) purchases.now }
-    ensures more { OnOk result (CountsChange change.now basis.now.overlay.now basis.now.at
-        basis.now.catalogue.now counts.old counts.new) }
+    requires sale { IsSale change.now (rows_of count_base.now.overlay.now) }
+    requires turned { AreTurned change.now (rows_of count_base.now.overlay.now) purchases.now }
+    ensures more { OnOk result (CountsChange change.now count_base.now.overlay.now count_base.now.at
+        count_base.now.catalogue.now counts.old counts.new) }
     ensures err { OnErr result (counts.new ≡ counts.old) }
 {
     match change {
-        Change::PutVoucher(row) => with_voucher(basis, counts, row.id, Some(row)),
-        Change::DropVoucher(id) => with_voucher(basis, counts, *id, None),
-        Change::PutCart(row) => with_cart(basis, counts, row.id, Some(row)),
-        Change::DropCart(id) => with_cart(basis, counts, *id, None),
-        Change::PutWaiting(row) => with_waiting(basis, counts, row.id, Some(row)),
-        Change::DropWaiting(id) => with_waiting(basis, counts, *id, None),
-        Change::PutOrder(row) => with_order(basis, counts, row, purchases),
-        Change::PutPosition(row) => with_position(basis, counts, row),
-        Change::PutCheckin(row) => with_checkin(basis, counts, row),
+        Change::PutVoucher(row) => with_voucher(count_base, counts, row.id, Some(row)),
+        Change::DropVoucher(id) => with_voucher(count_base, counts, *id, None),
+        Change::PutCart(row) => with_cart(count_base, counts, row.id, Some(row)),
+        Change::DropCart(id) => with_cart(count_base, counts, *id, None),
+        Change::PutWaiting(row) => with_waiting(count_base, counts, row.id, Some(row)),
+        Change::DropWaiting(id) => with_waiting(count_base, counts, *id, None),
+        Change::PutOrder(row) => with_order(count_base, counts, row, purchases),
+        Change::PutPosition(row) => with_position(count_base, counts, row),
+        Change::PutCheckin(row) => with_checkin(count_base, counts, row),
         _ => Ok(()),
     }
 }
@@ -198,26 +198,26 @@ fn cart_spot<'o, B: Book>(
 
 // Counts a cart position, or none, in the place of the id.
 fn with_cart<B: Book>(
-    basis: &Basis<'_, '_, B>,
+    count_base: &CountBase<'_, '_, B>,
     counts: &mut Tally<Usage>,
     id: u64,
     come: Option<&CartPos>,
 ) -> Result<(), AllocError>
     ensures more { OnOk result (IsMore
-        (cart_come (rows_of basis.now.overlay.now) basis.now.at (option_copied come.entry))
-        (cart_gone (rows_of basis.now.overlay.now) basis.now.at id)
-        basis.now.catalogue.now.lists.quotas counts.old counts.new) }
+        (cart_come (rows_of count_base.now.overlay.now) count_base.now.at (option_copied come.entry))
+        (cart_gone (rows_of count_base.now.overlay.now) count_base.now.at id)
+        count_base.now.catalogue.now.lists.quotas counts.old counts.new) }
     ensures err { OnErr result (counts.new ≡ counts.old) }
 {
-    let come = cart_spot(basis.overlay, basis.at, come);
-    let gone = cart_spot(basis.overlay, basis.at, basis.overlay.cart(id));
+    let come = cart_spot(count_base.overlay, count_base.at, come);
+    let gone = cart_spot(count_base.overlay, count_base.at, count_base.overlay.cart(id));
     let waits = false;
     count_each(
         counts,
-        basis.alloc,
-        basis.catalogue,
+        count_base.alloc,
+        count_base.catalogue,
         &Spots {
-            at: basis.at,
+            at: count_base.at,
             waits,
             come,
             gone,
@@ -245,26 +245,26 @@ fn waiting_spot<'s>(at: Moment, entry: Option<&Waiting>) -> Option<Spot<'s>>
 
 // Counts a waiting entry, or none, in the place of the id.
 fn with_waiting<B: Book>(
-    basis: &Basis<'_, '_, B>,
+    count_base: &CountBase<'_, '_, B>,
     counts: &mut Tally<Usage>,
     id: u64,
     come: Option<&Waiting>,
 ) -> Result<(), AllocError>
     ensures more { OnOk result (IsMore
         (waiting_come (option_copied come.entry))
-        (waiting_gone (rows_of basis.now.overlay.now) id)
-        basis.now.catalogue.now.lists.quotas counts.old counts.new) }
+        (waiting_gone (rows_of count_base.now.overlay.now) id)
+        count_base.now.catalogue.now.lists.quotas counts.old counts.new) }
     ensures err { OnErr result (counts.new ≡ counts.old) }
 {
-    let come = waiting_spot(basis.at, come);
-    let gone = waiting_spot(basis.at, basis.overlay.entry(id));
+    let come = waiting_spot(count_base.at, come);
+    let gone = waiting_spot(count_base.at, count_base.overlay.entry(id));
     let waits = true;
     count_each(
         counts,
-        basis.alloc,
-        basis.catalogue,
+        count_base.alloc,
+        count_base.catalogue,
         &Spots {
-            at: basis.at,
+            at: count_base.at,
             waits,
             come,
             gone,
@@ -332,28 +332,28 @@ fn sold_as(paid: bool, pending: bool, here: bool, released: bool) -> Usage
 
 // Counts a new order position, where its order is in force.
 fn with_position<B: Book>(
-    basis: &Basis<'_, '_, B>,
+    count_base: &CountBase<'_, '_, B>,
     counts: &mut Tally<Usage>,
     row: &OrderPos,
 ) -> Result<(), AllocError>
-    ensures more { OnOk result (CountsChange (PutPosition row.now) basis.now.overlay.now
-        basis.now.at basis.now.catalogue.now counts.old counts.new) }
+    ensures more { OnOk result (CountsChange (PutPosition row.now) count_base.now.overlay.now
+        count_base.now.at count_base.now.catalogue.now counts.old counts.new) }
     ensures err { OnErr result (counts.new ≡ counts.old) }
 {
-    let order = basis.overlay.order(row.order);
+    let order = count_base.overlay.order(row.order);
     if !is_in_force(order) {
         return Ok(());
     }
-    let voucher = voucher_of(basis.overlay, row.voucher);
+    let voucher = voucher_of(count_base.overlay, row.voucher);
     count_each(
         counts,
-        basis.alloc,
-        basis.catalogue,
+        count_base.alloc,
+        count_base.catalogue,
         &Sale {
-            at: basis.at,
+            at: count_base.at,
             paid: is_paid(order),
             pending: is_pending(order),
-            out: basis.overlay.is_out(row.id),
+            out: count_base.overlay.is_out(row.id),
             product: row.product,
             voucher,
         },
@@ -440,29 +440,29 @@ fn may_block(at: Moment, voucher: Option<&Voucher>) -> bool
 
 // Counts a voucher, or none, in the place of the id.
 fn with_voucher<B: Book>(
-    basis: &Basis<'_, '_, B>,
+    count_base: &CountBase<'_, '_, B>,
     counts: &mut Tally<Usage>,
     id: u64,
     come: Option<&Voucher>,
 ) -> Result<(), AllocError>
     ensures more { OnOk result (IsMore
-        (voucher_come (rows_of basis.now.overlay.now) basis.now.at id (option_copied come.entry))
-        (voucher_gone (rows_of basis.now.overlay.now) basis.now.at id (option_copied come.entry))
-        basis.now.catalogue.now.lists.quotas counts.old counts.new) }
+        (voucher_come (rows_of count_base.now.overlay.now) count_base.now.at id (option_copied come.entry))
+        (voucher_gone (rows_of count_base.now.overlay.now) count_base.now.at id (option_copied come.entry))
+        count_base.now.catalogue.now.lists.quotas counts.old counts.new) }
     ensures err { OnErr result (counts.new ≡ counts.old) }
 {
-    let gone = basis.overlay.voucher(id);
-    if !may_block(basis.at, come) && !may_block(basis.at, gone) {
+    let gone = count_base.overlay.voucher(id);
+    if !may_block(count_base.at, come) && !may_block(count_base.at, gone) {
         return Ok(());
     }
-    let redeemed = basis.overlay.redeemed(id);
+    let redeemed = count_base.overlay.redeemed(id);
     count_each(
         counts,
-        basis.alloc,
-        basis.catalogue,
+        count_base.alloc,
+        count_base.catalogue,
         &VoucherTurn {
-            overlay: basis.overlay,
-            at: basis.at,
+            overlay: count_base.overlay,
+            at: count_base.at,
             id,
             redeemed,
             come,

@@ -4,10 +4,10 @@
 ghost use Rattle.std.specs.Prelude.{◌≡◌, [], length, OnOk, OnErr};
 ghost use Rattle.model_rows.specs.Change.{after_change};
 ghost use Rattle.draft_overlay.specs.Logs.{rows_of, IsSale};
-ghost use Rattle.draft_counts.specs.Shift.{AreTurned};
+ghost use Rattle.draft_counts.specs.CountDelta.{AreTurned};
 ghost use Rattle.draft_counts.specs.Tallied.{CountsChange, CountsUses, IsNext, reach_now, reach_at, tallied_at};
 
-use crate::basis::Basis;
+use crate::count_base::CountBase;
 use crate::numbers::{carts_after, vouchers_after};
 use crate::orders::turned_purchases;
 use crate::shift::count_change;
@@ -22,17 +22,17 @@ use std::marker::Model;
 
 /// How many cart positions and vouchers there are at one place of a log.
 #[derive(Clone, Copy)]
-pub struct Standing {
+pub struct RowCounts {
     pub carts: usize,
     pub vouchers: usize,
 }
 
 /// How far the counts reach at one place of a log: the lengths of both journals, and what stands there.
 #[derive(Clone, Copy)]
-pub struct Reach {
+pub struct JournalMark {
     pub counts: usize,
     pub uses: usize,
-    pub here: Standing,
+    pub here: RowCounts,
 }
 
 /// The counts by quota and the uses of vouchers, now and before each change.
@@ -40,8 +40,8 @@ pub struct Reach {
 pub struct Tallies {
     counts: Tally<Usage>,
     uses: Tally<Uses>,
-    here: Standing,
-    reached: Vec<Reach>,
+    here: RowCounts,
+    reached: Vec<JournalMark>,
 }
 
 impl Model for Tallies {
@@ -66,7 +66,7 @@ impl Tallies {
         Tallies {
             counts: Tally::new(alloc),
             uses: Tally::new(alloc),
-            here: Standing { carts, vouchers },
+            here: RowCounts { carts, vouchers },
             reached: Vec::new(alloc),
         }
     }
@@ -79,7 +79,7 @@ impl Tallies {
     }
 
     /// What stands now.
-    pub fn here(&self) -> Standing
+    pub fn here(&self) -> RowCounts
         ensures { result ≡ self.now.here }
     {
         self.here
@@ -93,10 +93,10 @@ impl Tallies {
     }
 
     // How far the counts reach now.
-    fn reach_now(&self) -> Reach
+    fn reach_now(&self) -> JournalMark
         ensures { result ≡ reach_now self.now }
     {
-        Reach {
+        JournalMark {
             counts: self.counts.len(),
             uses: self.uses.len(),
             here: self.here,
@@ -104,7 +104,7 @@ impl Tallies {
     }
 
     /// How far the counts reached after so many changes.
-    pub fn reach_at(&self, count: usize) -> Reach
+    pub fn reach_at(&self, count: usize) -> JournalMark
         ensures { result ≡ reach_at count self.now }
     {
         match self.reached.get(count) {
@@ -135,15 +135,15 @@ impl Tallies {
         let carts = carts_after(overlay, here.carts, change);
         let vouchers = vouchers_after(overlay, here.vouchers, change);
         self.reached.reserve(1)?;
-        let basis = Basis {
+        let count_base = CountBase {
             overlay,
             alloc,
             at,
             catalogue,
         };
-        count_both(&basis, &mut self.counts, &mut self.uses, change, &purchases)?;
+        count_both(&count_base, &mut self.counts, &mut self.uses, change, &purchases)?;
         self.reached.push(reach)?;
-        self.here = Standing { carts, vouchers };
+        self.here = RowCounts { carts, vouchers };
         Ok(())
     }
 
@@ -161,24 +161,24 @@ impl Tallies {
 
 // Counts what a change brings to the quotas and takes from them, and the uses of vouchers that come and go with it.
 fn count_both<B: Book>(
-    basis: &Basis<'_, '_, B>,
+    count_base: &CountBase<'_, '_, B>,
     counts: &mut Tally<Usage>,
     uses: &mut Tally<Uses>,
     change: &Change,
     purchases: &[Purchase],
 ) -> Result<(), AllocError>
-    requires sale { IsSale change.now (rows_of basis.now.overlay.now) }
-    requires turned { AreTurned change.now (rows_of basis.now.overlay.now) purchases.now }
-    ensures more { OnOk result (CountsChange change.now basis.now.overlay.now basis.now.at
-        basis.now.catalogue.now counts.old counts.new) }
+    requires sale { IsSale change.now (rows_of count_base.now.overlay.now) }
+    requires turned { AreTurned change.now (rows_of count_base.now.overlay.now) purchases.now }
+    ensures more { OnOk result (CountsChange change.now count_base.now.overlay.now count_base.now.at
+        count_base.now.catalogue.now counts.old counts.new) }
     ensures uses { OnOk result
-        (CountsUses change.now basis.now.overlay.now basis.now.at uses.old uses.new) }
+        (CountsUses change.now count_base.now.overlay.now count_base.now.at uses.old uses.new) }
     ensures err { OnErr result (counts.new ≡ counts.old) }
     ensures err_uses { OnErr result (uses.new ≡ uses.old) }
 {
     let start = counts.len();
-    count_change(basis, counts, change, purchases)?;
-    if count_uses(basis, uses, change, purchases).is_err() {
+    count_change(count_base, counts, change, purchases)?;
+    if count_uses(count_base, uses, change, purchases).is_err() {
         counts.truncate(start);
         return Err(AllocError);
     }

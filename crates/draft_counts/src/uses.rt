@@ -5,11 +5,11 @@ ghost use Rattle.model_rows.specs.declared.changes.Change.TheVariants.{PutOrder}
 ghost use Rattle.draft_overlay.specs.Logs.{rows_of};
 ghost use Rattle.draft_counts.specs.Counts.{AreMoreUses};
 ghost use Rattle.draft_counts.specs.Tallied.{CountsUses};
-ghost use Rattle.draft_counts.specs.Shift.{AreTurned};
+ghost use Rattle.draft_counts.specs.CountDelta.{AreTurned};
 ghost use Rattle.book_tally.specs.Amounts.{no_uses};
 ghost use Rattle.draft_counts.specs.Uses.{held_by, purchase_uses, used_by, used_since};
 
-use crate::basis::Basis;
+use crate::count_base::CountBase;
 use base_values::Cents;
 use book_tally::{Amount, Tally, Uses};
 use book_usage::rules::{held_name, is_in_force, used_name};
@@ -20,30 +20,30 @@ use std::alloc::AllocError;
 
 /// Counts the uses that come and go with a change. Where there is no memory for it, the counts are as they were.
 pub fn count_uses<B: Book>(
-    basis: &Basis<'_, '_, B>,
+    count_base: &CountBase<'_, '_, B>,
     uses: &mut Tally<Uses>,
     change: &Change,
     purchases: &[Purchase],
 ) -> Result<(), AllocError>
-    requires turned { AreTurned change.now (rows_of basis.now.overlay.now) purchases.now }
+    requires turned { AreTurned change.now (rows_of count_base.now.overlay.now) purchases.now }
     ensures more { OnOk result
-        (CountsUses change.now basis.now.overlay.now basis.now.at uses.old uses.new) }
+        (CountsUses change.now count_base.now.overlay.now count_base.now.at uses.old uses.new) }
     ensures err { OnErr result (uses.new ≡ uses.old) }
 {
     match change {
         Change::PutCart(row) => {
-            let gone = held_name(basis.at, basis.overlay.cart(row.id));
-            count_held(uses, held_name(basis.at, Some(row)), gone)
+            let gone = held_name(count_base.at, count_base.overlay.cart(row.id));
+            count_held(uses, held_name(count_base.at, Some(row)), gone)
         }
         Change::DropCart(id) => count_held(
             uses,
             None,
-            held_name(basis.at, basis.overlay.cart(*id)),
+            held_name(count_base.at, count_base.overlay.cart(*id)),
         ),
         Change::PutPosition(row) => {
-            count_used(uses, used_name(basis.overlay, Some(row)), row.discount)
+            count_used(uses, used_name(count_base.overlay, Some(row)), row.discount)
         }
-        Change::PutOrder(row) => count_turned(basis, uses, row, purchases),
+        Change::PutOrder(row) => count_turned(count_base, uses, row, purchases),
         _ => Ok(()),
     }
 }
@@ -83,18 +83,18 @@ fn count_used(uses: &mut Tally<Uses>, come: Option<u64>, discount: Cents) -> Res
 
 // Counts the uses of an order's positions, where it comes into force or is so no more.
 fn count_turned<B: Book>(
-    basis: &Basis<'_, '_, B>,
+    count_base: &CountBase<'_, '_, B>,
     uses: &mut Tally<Uses>,
     row: &Order,
     purchases: &[Purchase],
 ) -> Result<(), AllocError>
-    requires turned { AreTurned (PutOrder row.now) (rows_of basis.now.overlay.now) purchases.now }
+    requires turned { AreTurned (PutOrder row.now) (rows_of count_base.now.overlay.now) purchases.now }
     ensures more { OnOk result
-        (CountsUses (PutOrder row.now) basis.now.overlay.now basis.now.at uses.old uses.new) }
+        (CountsUses (PutOrder row.now) count_base.now.overlay.now count_base.now.at uses.old uses.new) }
     ensures err { OnErr result (uses.new ≡ uses.old) }
 {
     let force = row.status.is_in_force();
-    let stood = is_in_force(basis.overlay.order(row.id));
+    let stood = is_in_force(count_base.overlay.order(row.id));
     if force == stood {
         return Ok(());
     }

@@ -12,9 +12,9 @@ use Rattle.model_rows.specs.CountRows.{CountRows, counts_after}
 use Rattle.model_rows.specs.Lists.{Lists, State}
 use Rattle.model_invariant.specs.Sound.{IsSound}
 use Rattle.model_invariant.proofs.Sound.{sound_later}
-use Rattle.book_tally.specs.declared.shifts.Drafted.{Drafted}
+use Rattle.book_tally.specs.declared.deltas.Drafted.{Drafted}
 use Rattle.book_tally.proofs.Unshifted.{unchanged}
-use Rattle.office_step.specs.IsStep.{HasShifts}
+use Rattle.office_step.specs.IsStep.{HasCountDeltas}
 use Rattle.model_commands.specs.declared.requests.Command.{Command}
 use Rattle.model_commands.specs.declared.replies.Reply.{Reply}
 use Rattle.office_deliveries.specs.declared.arrival.Arrival.{Arrival}
@@ -49,8 +49,8 @@ pub passed-sound : (changes : Changed) (at : ℕ) (state : State) → changes.li
 passed-sound changes at state list next later last sound = subst IsSound (sym (passed changes at state list next)) (sound_later state at later last sound)
 
 -- time alone shifts no count
-pub passed-shifts : (lists : Lists) (at : ℕ) (drafted : Drafted) → drafted.changes.list ≡ [] → drafted.shifts.quotas.items ≡ [] → drafted.shifts.vouchers.items ≡ [] → HasShifts at lists drafted
-passed-shifts lists at drafted list none gone = rw list (unchanged lists at drafted.shifts none gone)
+pub passed-deltas : (lists : Lists) (at : ℕ) (drafted : Drafted) → drafted.changes.list ≡ [] → drafted.deltas.quotas.items ≡ [] → drafted.deltas.vouchers.items ≡ [] → HasCountDeltas at lists drafted
+passed-deltas lists at drafted list none gone = rw list (unchanged lists at drafted.deltas none gone)
 
 -- ---- what is executed
 

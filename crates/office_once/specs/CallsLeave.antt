@@ -4,7 +4,7 @@ use Rattle.base_values.specs.declared.answer.Answer.{Answer}
 use Rattle.base_values.specs.declared.answer.Answer.TheVariants.{Unavailable}
 use Rattle.base_values.specs.declared.answer.Response.{Response}
 use Rattle.base_values.specs.declared.draw.Draw.{Draw}
-use Rattle.book_tally.specs.declared.shifts.Drafted.{Drafted}
+use Rattle.book_tally.specs.declared.deltas.Drafted.{Drafted}
 use Rattle.model_answers.specs.CallsLeave.{KnowsStill, MayLeaveNoMore}
 use Rattle.model_answers.specs.declared.kept.Kept.{Kept}
 use Rattle.model_answers.specs.House.{House}
@@ -18,7 +18,7 @@ use Rattle.office_deliveries.specs.declared.arrival.Request.{Request}
 use Rattle.office_deliveries.specs.Deliveries.{Opening, Delivery, request_done, answer_told}
 use Rattle.office_deliveries.specs.Histories.{Running, IsRunning, TellsIt, after_act}
 use Rattle.office_deliveries.specs.Shops.{Views, StandsFor, IsAnswered, IsDecided, arrival_delivered, executes, arrival_served}
-use Rattle.office_step.specs.IsStep.{HasShifts}
+use Rattle.office_step.specs.IsStep.{HasCountDeltas}
 use Rattle.office_once.specs.OpenShop.{OpenShop}
 
 -- this is so of each shop that its tables and its office were those of before
@@ -57,7 +57,7 @@ RunsOn words holds may_leave a answer old new =
 pub record Decides (words : Reply → Response) (request : Request) (at : ℕ) (draw : Draw) (state : State) (drafted : Drafted) (response : Response) : Type 0 where
   pub made : (let both : State × Response = (changes_applied drafted.changes at state, response) in both ≡ request_done words request at draw state)
   pub sound : IsSound (changes_applied drafted.changes at state)
-  pub shifts : HasShifts at state.lists drafted
+  pub deltas : HasCountDeltas at state.lists drafted
 
 module _ {T W : Type 0} (is_sure : T → Type 0) (knows : T → House → Type 0) (holds : T → State → List Kept → Type 0) (may_leave : T → ShopView → Type 0) where
   -- a call asks the tables and changes nothing; this holds of what it found

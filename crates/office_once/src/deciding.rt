@@ -4,7 +4,7 @@ ghost use Rattle.std.specs.Prelude.{◌≡◌, ◌≤◌, IfOk, true};
 ghost use Rattle.model_rows.specs.Change.{changes_applied};
 ghost use Rattle.model_rows.specs.CountRows.{counts_after};
 ghost use Rattle.model_invariant.specs.Sound.{IsSound};
-ghost use Rattle.office_step.specs.IsStep.{HasShifts};
+ghost use Rattle.office_step.specs.IsStep.{HasCountDeltas};
 ghost use Rattle.office_deliveries.specs.declared.arrival.Request.TheVariants.{Write};
 ghost use Rattle.office_deliveries.specs.Deliveries.{is_write, request_done};
 ghost use Rattle.office_once.specs.CallsLeave.{Decides};
@@ -44,7 +44,7 @@ impl<T: Tables, B: Dues, W: Wording> Shop<T, B, W> {
         ensures passed { changes_applied result.changes at self.now.state
             ≡ record self.now.state { moment = at } }
         ensures sound { IsSound (changes_applied result.changes at self.now.state) }
-        ensures shifts { HasShifts at self.now.state.lists result }
+        ensures deltas { HasCountDeltas at self.now.state.lists result }
     {
         let next = self.office.book().next_ids();
         Drafted::plain(alloc, Changes::new(Vec::new(alloc), next))
@@ -96,8 +96,8 @@ impl<T: Tables, B: Dues, W: Wording> Shop<T, B, W> {
             ≡ counts_after self.now.state (changes_applied r.0 at self.now.state)) }
     {
         let (drafted, response) = self.decide(alloc, at, draw, request)?;
-        let Drafted { changes, shifts } = drafted;
-        let counts = counts_by_shifts(self.office.book(), alloc, &changes, &shifts, at)?;
+        let Drafted { changes, deltas } = drafted;
+        let counts = counts_by_shifts(self.office.book(), alloc, &changes, &deltas, at)?;
         Ok((changes, counts, response))
     }
 }

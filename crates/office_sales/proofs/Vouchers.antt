@@ -11,8 +11,8 @@ use Rattle.model_rows.specs.Change.{Changed, changes_applied, after_all}
 use Rattle.office_step.specs.Drafts.{DraftState, now, Extends}
 use Rattle.model_commands.specs.declared.vouchers.NewVoucher.{NewVoucher}
 use Rattle.model_commands.specs.declared.vouchers.VoucherPatch.{VoucherPatch}
-use Rattle.book_tally.specs.declared.shifts.Drafted.{Drafted}
-use Rattle.office_step.specs.IsStep.{HasShifts, IsClosed, IsStep}
+use Rattle.book_tally.specs.declared.deltas.Drafted.{Drafted}
+use Rattle.office_step.specs.IsStep.{HasCountDeltas, IsClosed, IsStep}
 use Rattle.office_step.specs.Step.{voucher_made, voucher_changed, voucher_step, voucher_change_step}
 use Rattle.office_step.proofs.SoundSteps.{made_is, changed_is}
 use Rattle.model_commands.specs.declared.requests.Command.TheVariants.{AddVoucher, ChangeVoucher}
@@ -69,31 +69,31 @@ ended state at begun after made is extends list next =
 -- a voucher that a draft made is the step of its command
 pub made_step : (new : NewVoucher) (draw : Draw) (at : ℕ) (state : State) (begun after : DraftState) (row : Voucher) (made : Drafted)
     → begun ≡ opened state at → Extends begun after → voucher_made new draw (now begun) ≡ Ok (now after, row) → after.log.changes ≡ begun.log.changes ++ PutVoucher row ∷ [] → made.changes.list ≡ after.log.changes → made.changes.next ≡ after.next
-    → HasShifts at state.lists made
+    → HasCountDeltas at state.lists made
     → IsStep (AddVoucher new) at draw state (made, Made (show_voucher state.lists row))
-made_step new draw at state begun after row made is extends done changes list next shifts =
+made_step new draw at state begun after row made is extends done changes list next deltas =
     let now_done : voucher_made new draw (record state { moment = at }) ≡ Ok (now after, row) = ap (λ (d : DraftState). voucher_made new draw (now d)) (sym is) ∙ done in
     let shown : show_voucher state.lists row ≡ show_voucher (now after).lists row = made_shown new draw (record state { moment = at }) (now after) row now_done in record {
       step = ap (λ (s : State). let told : State × Reply = (s, Made (show_voucher state.lists row)) in told) (ended state at begun after made.changes is extends list next)
           ∙ (ap (λ s. let told : State × Reply = (now after, Made s) in told) shown ∙ ap (voucher_step (record state { moment = at })) (sym now_done));
       changes = list ∙ (put_alone state at begun after row is changes ∙ sym (made_changes new draw (record state { moment = at }) state.lists row));
       refused = λ kind refusal told. cc;
-      shifts = shifts;
+      deltas = deltas;
     }
 
 -- and one that a draft changed
 pub changed_step : (id : ℕ) (patch : VoucherPatch) (draw : Draw) (at : ℕ) (state : State) (begun after : DraftState) (row : Voucher) (made : Drafted)
     → begun ≡ opened state at → Extends begun after → voucher_changed id patch (now begun) ≡ Ok (now after, row) → after.log.changes ≡ begun.log.changes ++ PutVoucher row ∷ [] → made.changes.list ≡ after.log.changes → made.changes.next ≡ after.next
-    → HasShifts at state.lists made
+    → HasCountDeltas at state.lists made
     → IsStep (ChangeVoucher id patch) at draw state (made, Found (show_voucher state.lists row))
-changed_step id patch draw at state begun after row made is extends done changes list next shifts =
+changed_step id patch draw at state begun after row made is extends done changes list next deltas =
     let now_done : voucher_changed id patch (record state { moment = at }) ≡ Ok (now after, row) = ap (λ (d : DraftState). voucher_changed id patch (now d)) (sym is) ∙ done in
     let shown : show_voucher state.lists row ≡ show_voucher (now after).lists row = changed_shown id patch (record state { moment = at }) (now after) row now_done in record {
       step = ap (λ (s : State). let told : State × Reply = (s, Found (show_voucher state.lists row)) in told) (ended state at begun after made.changes is extends list next)
           ∙ (ap (λ s. let told : State × Reply = (now after, Found s) in told) shown ∙ ap (voucher_change_step (record state { moment = at })) (sym now_done));
       changes = list ∙ (put_alone state at begun after row is changes ∙ sym (changed_changes id patch draw (record state { moment = at }) state.lists row));
       refused = λ kind refusal told. cc;
-      shifts = shifts;
+      deltas = deltas;
     }
 
 abbrev answered : Reply → Result Reply AllocError
@@ -107,5 +107,5 @@ pub closed_with : (at : ℕ) (lists : Lists) (result : Result (Drafted × Reply)
     → IfOk result (IsClosed at lists draft reply) → reply ≡ Ok told → ((made : Drafted) → IsClosed at lists draft (Ok told) (made, told) → P (made, told)) → IfOk result P
 closed_with at lists (Ok (made, said)) reply told draft P closed is holds =
     let same : told ≡ said = same_told (sym is ∙ closed.reply) in
-    subst (λ (t : Reply). P (made, t)) same (holds made (record { reply = refl; list = closed.list; next = closed.next; shifts = closed.shifts }))
+    subst (λ (t : Reply). P (made, t)) same (holds made (record { reply = refl; list = closed.list; next = closed.next; deltas = closed.deltas }))
 closed_with at lists (Err e) reply told draft P closed is holds = tt

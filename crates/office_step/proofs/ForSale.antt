@@ -5,8 +5,8 @@ use Rattle.model_rows.specs.declared.changes.Change.{Change}
 use Rattle.model_rows.specs.declared.changes.Change.TheVariants.{PutItem, PutVariation, PutQuota}
 use Rattle.model_rows.specs.Lists.{Lists}
 use Rattle.model_rows.specs.Change.{after_change, after_all}
-use Rattle.book_tally.specs.declared.shifts.Shifts.{Shifts}
-use Rattle.book_tally.specs.Shifts.{AreShifts}
+use Rattle.book_tally.specs.declared.deltas.CountDeltas.{CountDeltas}
+use Rattle.book_tally.specs.CountDeltas.{AreCountDeltas}
 use Rattle.book_tally.proofs.Unshifted.{unshifted}
 use Rattle.office_step.specs.IsStep.{AreOfCatalogue}
 
@@ -18,9 +18,9 @@ alone (PutVariation row ∷ changes) lists are = alone changes (after_change (Pu
 alone (PutQuota row ∷ changes) lists are = alone changes (after_change (PutQuota row) lists) are
 alone (change ∷ changes) lists are = absurd are
 
-pub offered_shifts : (changes : List Change) (at : ℕ) (lists : Lists) (shifts : Shifts) → AreOfCatalogue changes → shifts.quotas.items ≡ [] → shifts.vouchers.items ≡ [] → AreShifts lists (after_all changes lists) at shifts
-offered_shifts changes at lists shifts are none gone =
-    subst (λ (l : Lists). AreShifts lists l at shifts) (sym (alone changes lists are)) (unshifted lists (after_all changes lists).catalogue at shifts none gone)
+pub offered_shifts : (changes : List Change) (at : ℕ) (lists : Lists) (deltas : CountDeltas) → AreOfCatalogue changes → deltas.quotas.items ≡ [] → deltas.vouchers.items ≡ [] → AreCountDeltas lists (after_all changes lists) at deltas
+offered_shifts changes at lists deltas are none gone =
+    subst (λ (l : Lists). AreCountDeltas lists l at deltas) (sym (alone changes lists are)) (unshifted lists (after_all changes lists).catalogue at deltas none gone)
 
 -- variations that are put are for sale
 pub variations_offered : (rows : List Variation) → AreOfCatalogue (map PutVariation rows)

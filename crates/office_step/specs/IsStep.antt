@@ -7,8 +7,8 @@ use Rattle.model_rows.specs.declared.changes.Change.TheVariants.{PutItem, PutVar
 use Rattle.model_rows.specs.Lists.{Lists, State}
 use Rattle.model_rows.specs.Change.{after_all, changes_applied}
 use Rattle.model_invariant.specs.Sound.{IsSound}
-use Rattle.book_tally.specs.declared.shifts.Drafted.{Drafted}
-use Rattle.book_tally.specs.Shifts.{AreShifts}
+use Rattle.book_tally.specs.declared.deltas.Drafted.{Drafted}
+use Rattle.book_tally.specs.CountDeltas.{AreCountDeltas}
 use Rattle.model_commands.specs.declared.requests.Command.{Command}
 use Rattle.model_commands.specs.declared.replies.Reply.{Reply}
 use Rattle.office_step.specs.Drafts.{DraftState}
@@ -21,8 +21,8 @@ pub record CanBegin (at : ℕ) (state : State) : Type 0 where
   pub sound : IsSound state
 
 -- what changes shift of the counts over these lists, at a moment, is handed on with them
-abbrev pub HasShifts : ℕ → Lists → Drafted → Type 0
-HasShifts at lists drafted = AreShifts lists (after_all drafted.changes.list lists) at drafted.shifts
+abbrev pub HasCountDeltas : ℕ → Lists → Drafted → Type 0
+HasCountDeltas at lists drafted = AreCountDeltas lists (after_all drafted.changes.list lists) at drafted.deltas
 
 -- each of these changes is of what is for sale
 abbrev pub AreOfCatalogue : List Change → Type 0
@@ -37,7 +37,7 @@ pub record IsClosed (at : ℕ) (lists : Lists) (draft : DraftState) (told : Resu
   pub reply : told ≡ Ok made.1
   pub list : made.0.changes.list ≡ draft.log.changes
   pub next : made.0.changes.next ≡ draft.next
-  pub shifts : HasShifts at lists made.0
+  pub deltas : HasCountDeltas at lists made.0
 
 -- What was made of a command, its changes and its reply, is its step in this office, at this moment and with this draw: the
 -- changes lead to the office after the step, and the reply is that of the step. The changes are those of the command and no
@@ -46,7 +46,7 @@ pub record IsStep (command : Command) (at : ℕ) (draw : Draw) (state : State) (
   pub step : (changes_applied made.0.changes at state, made.1) ≡ step command at draw state
   pub changes : made.0.changes.list ≡ changes_of command draw (record state { moment = at }) made.1
   pub refused : RefusesWithoutChange state (made.0.changes, made.1)
-  pub shifts : HasShifts at state.lists made.0
+  pub deltas : HasCountDeltas at state.lists made.0
 
 -- what was made is the command's step with whatever draw: the command needs none
 abbrev pub IsUndrawnStep : Command → ℕ → State → Drafted × Reply → Type 0

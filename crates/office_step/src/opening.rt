@@ -5,7 +5,7 @@ ghost use Rattle.model_commands.specs.declared.replies.Reply.{Reply};
 ghost use Rattle.office_step.specs.Drafts.{now};
 ghost use Rattle.model_rows.specs.Lists.{Lists};
 ghost use Rattle.model_invariant.specs.Sound.{IsSound};
-ghost use Rattle.office_step.specs.IsStep.{AreOfCatalogue, CanBegin, HasShifts, IsClosed};
+ghost use Rattle.office_step.specs.IsStep.{AreOfCatalogue, CanBegin, HasCountDeltas, IsClosed};
 ghost use Rattle.office_step.specs.ShownRows.{show_voucher};
 ghost use Rattle.office_step.specs.Step.{no_change};
 
@@ -52,7 +52,7 @@ pub fn close<B: Book>(
 pub fn refused<B: Book>(book: &B, alloc: Global, kind: Kind, refusal: Refusal) -> (Drafted, Reply)
     ensures changes { result.0.changes ≡ no_change (B.state book.now) }
     ensures reply { result.1 ≡ Reply.Refused kind refusal }
-    ensures shifts { (at : ℕ) → HasShifts at (B.state book.now).lists result.0 }
+    ensures deltas { (at : ℕ) → HasCountDeltas at (B.state book.now).lists result.0 }
 {
     let changes = Changes::new(Vec::new(alloc), book.next_ids());
     (
@@ -66,7 +66,7 @@ pub fn offered(alloc: Global, changes: Changes, reply: Reply) -> (Drafted, Reply
     requires { AreOfCatalogue changes.list }
     ensures changes { result.0.changes ≡ changes }
     ensures reply { result.1 ≡ reply }
-    ensures shifts { (at : ℕ) (lists : Lists) → HasShifts at lists result.0 }
+    ensures deltas { (at : ℕ) (lists : Lists) → HasCountDeltas at lists result.0 }
 {
     (Drafted::plain(alloc, changes), reply)
 }

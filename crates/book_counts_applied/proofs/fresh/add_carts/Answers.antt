@@ -1,6 +1,6 @@
 use Rattle.std.proofs.Common.{◌∙◌, List, sym, ap}
 use Rattle.model_rows.specs.declared.rows.CartPos.{CartPos}
-use Rattle.book_counts_over_time.specs.Shifts.{map_beside}
+use Rattle.book_counts_over_time.specs.UsageUpdates.{map_beside}
 use Rattle.book_counts_applied.specs.Fresh.{after_each, cart_comes}
 use Rattle.book_counts_applied.proofs.FreshLemmas.{each_more, each_none}
 use Rattle.book_counts_applied.proofs.fresh.add_carts.Goals as goal

@@ -1,5 +1,5 @@
 use Rattle.std.proofs.Common.{◌≡◌, length}
-use Rattle.book_counts_over_time.specs.Shifts.{map_beside}
+use Rattle.book_counts_over_time.specs.UsageUpdates.{map_beside}
 use Rattle.book_counts_applied.specs.Fresh.{after_each, cart_comes}
 use Rattle.book_counts_applied.proofs.fresh.add_carts.Given as goal
 

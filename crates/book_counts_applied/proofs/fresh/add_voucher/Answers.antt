@@ -1,5 +1,5 @@
 use Rattle.std.proofs.Common.{ℕ, Some, None, ap, ◌∙◌}
-use Rattle.book_counts_over_time.specs.Shifts.{block_shift, map_beside}
+use Rattle.book_counts_over_time.specs.UsageUpdates.{block_shift, map_beside}
 use Rattle.book_counts_applied.proofs.FreshLemmas.{voucher_comes_one}
 use Rattle.book_counts_applied.proofs.fresh.add_voucher.Goals as goal
 

@@ -1,5 +1,5 @@
 use Rattle.std.proofs.Common.{◌≡◌, length, drop}
-use Rattle.book_counts_over_time.specs.Shifts.{map_beside}
+use Rattle.book_counts_over_time.specs.UsageUpdates.{map_beside}
 use Rattle.book_counts_applied.specs.Fresh.{after_each, voucher_comes}
 use Rattle.book_counts_applied.proofs.fresh.add_vouchers.Given as goal
 

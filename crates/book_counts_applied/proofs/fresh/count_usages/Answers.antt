@@ -4,7 +4,7 @@ use Rattle.model_catalogue.specs.CatalogueLists.{CatalogueLists}
 use Rattle.model_rows.specs.declared.rows.OrderPos.{OrderPos}
 use Rattle.model_rows.specs.declared.rows.Voucher.{Voucher}
 use Rattle.model_rows.specs.Usage.{usage_of}
-use Rattle.book_counts_over_time.specs.Shifts.{map_beside}
+use Rattle.book_counts_over_time.specs.UsageUpdates.{map_beside}
 use Rattle.book_counts_applied.specs.Fresh.{after_each, position_comes, voucher_comes}
 use Rattle.book_counts_applied.specs.Settled.{nothing}
 use Rattle.book_counts_applied.proofs.FreshLemmas.{usages_come}

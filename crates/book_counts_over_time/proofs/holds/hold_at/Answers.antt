@@ -4,7 +4,7 @@ use Rattle.model_rows.specs.Lists.{cart_at}
 use Rattle.book_counts_over_time.specs.Held.{named_by}
 use Rattle.book_counts_over_time.specs.Redemptions.{turn_each}
 use Rattle.book_counts_over_time.proofs.HoldLemmas.{held_ended}
-use Rattle.book_counts_over_time.proofs.ShiftLemmas.{same_map}
+use Rattle.book_counts_over_time.proofs.UsageUpdateLemmas.{same_map}
 use Rattle.book_counts_over_time.proofs.RedemptionLemmas.{pushed, all_taken}
 use Rattle.book_counts_over_time.proofs.holds.hold_at.Goals as goal
 

@@ -3,7 +3,7 @@ use Rattle.model_rows.specs.Headroom.{held}
 use Rattle.model_rows.specs.Change.{after_change}
 use Rattle.model_rows.specs.declared.changes.Change.TheVariants.{DropCart}
 use Rattle.book_counts_over_time.proofs.HoldLemmas.{held_drop}
-use Rattle.book_counts_over_time.proofs.ShiftLemmas.{same_map}
+use Rattle.book_counts_over_time.proofs.UsageUpdateLemmas.{same_map}
 use Rattle.book_counts_over_time.proofs.holds.hold_drop.Goals as goal
 
 pub returns-clause-held : goal.returns-clause-held

@@ -6,7 +6,7 @@ use Rattle.std.specs.Prelude.{true, Some}
 use Rattle.book_usage.specs.Shares.{held_name}
 use Rattle.book_counts_over_time.specs.Redemptions.{turn}
 use Rattle.book_counts_over_time.proofs.HoldLemmas.{held_put}
-use Rattle.book_counts_over_time.proofs.ShiftLemmas.{same_map}
+use Rattle.book_counts_over_time.proofs.UsageUpdateLemmas.{same_map}
 use Rattle.book_counts_over_time.proofs.holds.hold_put.Goals as goal
 
 pub returns-clause-held : goal.returns-clause-held

@@ -4,7 +4,7 @@ use Rattle.model_rows.specs.declared.changes.Change.{Change}
 use Rattle.model_rows.specs.Lists.{cart_at}
 use Rattle.model_rows.specs.Change.{after_change}
 use Rattle.draft_overlay.specs.Logs.{rows_of}
-use Rattle.draft_counts.proofs.RowCounts.{count_put, count_drop}
+use Rattle.draft_counts.proofs.RowCountLemmas.{count_put, count_drop}
 use Rattle.draft_counts.proofs.numbers.carts_after.Goals as goal
 
 pub returns-in-PutCart : goal.returns-in-PutCart

@@ -6,7 +6,7 @@ use Rattle.model_rows.specs.Usage.{is_covered_by, blocks_if}
 use Rattle.draft_overlay.specs.declared.purchases.Purchase.{Purchase}
 use Rattle.draft_overlay.specs.Logs.{rows_of}
 use Rattle.draft_counts.specs.declared.shift.Spot.{Spot}
-use Rattle.draft_counts.specs.Shift.{is_free_in}
+use Rattle.draft_counts.specs.CountDelta.{is_free_in}
 use Rattle.draft_counts.proofs.Values.{pushed_count}
 use Rattle.draft_counts.proofs.orders.spots_of.Goals as goal
 

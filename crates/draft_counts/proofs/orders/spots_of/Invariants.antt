@@ -4,7 +4,7 @@ use Rattle.model_catalogue.specs.declared.rows.Quota.{Quota}
 use Rattle.model_catalogue.specs.Member.{is_in}
 use Rattle.model_rows.specs.Usage.{is_covered_by, blocks_if}
 use Rattle.draft_overlay.specs.Logs.{rows_of}
-use Rattle.draft_counts.specs.Shift.{is_free_in}
+use Rattle.draft_counts.specs.CountDelta.{is_free_in}
 use Rattle.draft_counts.proofs.orders.spots_of.Given as goal
 
 -- the purchases that were reached have their places

@@ -14,7 +14,7 @@ use Rattle.draft_counts.proofs.uses.count_turned.Goals as goal
 
 pub returns-then-force-stood-clause-more : goal.returns-then-force-stood-clause-more
 returns-then-force-stood-clause-more g c =
-    let lists = rows_of c.args.basis.now.overlay.now in
+    let lists = rows_of c.args.count_base.now.overlay.now in
     let row = c.args.row.now in
     let old = order_at row.id lists in
     let force = c.is_in_force-force.ensures in
@@ -27,7 +27,7 @@ returns-then-force-stood-clause-more g c =
 
 pub returns-clause-more : goal.returns-clause-more
 returns-clause-more g c =
-    let lists = rows_of c.args.basis.now.overlay.now in
+    let lists = rows_of c.args.count_base.now.overlay.now in
     let row = c.args.row.now in
     let old = order_at row.id lists in
     let force = c.is_in_force-force.ensures in

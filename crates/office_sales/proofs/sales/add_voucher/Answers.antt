@@ -14,7 +14,7 @@ returns g c =
     let state : State = g.B.Book.state c.args.book.now in
     elim c.match-make.branch [
       | in-Ok w ↦ closed_with c.args.at state.lists c.close.result c.match-make.reply (Made (show_voucher state.lists w.in-Ok.row)) c.make.new.draft (IsStep (AddVoucher c.args.new.now) c.args.at c.args.draw state) c.close.ensures (w.reply-is ∙ ap (λ (s : Shown). Ok (Made s)) w.show_voucher.ensures)
-          (λ made closed. made_step c.args.new.now c.args.draw c.args.at state c.in_ok-draft.draft c.make.new.draft w.in-Ok.row made c.in_ok-draft.ensures.draft w.in-Ok.ensures.extends w.in-Ok.ensures.done w.in-Ok.ensures.changes closed.list closed.next closed.shifts)
+          (λ made closed. made_step c.args.new.now c.args.draw c.args.at state c.in_ok-draft.draft c.make.new.draft w.in-Ok.row made c.in_ok-draft.ensures.draft w.in-Ok.ensures.extends w.in-Ok.ensures.done w.in-Ok.ensures.changes closed.list closed.next closed.deltas)
       | in-Err-Memory w ↦ search rules
       | in-Err w ↦ search rules
     ]

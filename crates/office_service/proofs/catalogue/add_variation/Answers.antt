@@ -11,8 +11,8 @@ overflow_add-next g c =
 
 pub returns-in_ok-list-in-Ok : goal.returns-in_ok-list-in-Ok
 returns-in_ok-list-in-Ok g c =
-    timeless _ _ c.offered.result _ _ c.offered.ensures.changes c.offered.ensures.reply (λ at. c.offered.ensures.shifts at _) (λ at draw. record { leads = search rules; changes = search rules; refused = search rules })
+    timeless _ _ c.offered.result _ _ c.offered.ensures.changes c.offered.ensures.reply (λ at. c.offered.ensures.deltas at _) (λ at draw. record { leads = search rules; changes = search rules; refused = search rules })
 
 pub returns-in-Err : goal.returns-in-Err
 returns-in-Err g c =
-    timeless _ _ c.refused.result _ _ c.refused.ensures.changes c.refused.ensures.reply c.refused.ensures.shifts (λ at draw. record { leads = search rules; changes = search rules; refused = search rules })
+    timeless _ _ c.refused.result _ _ c.refused.ensures.changes c.refused.ensures.reply c.refused.ensures.deltas (λ at draw. record { leads = search rules; changes = search rules; refused = search rules })

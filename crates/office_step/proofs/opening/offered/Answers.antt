@@ -4,6 +4,6 @@ use Rattle.office_step.specs.IsStep.{AreOfCatalogue}
 use Rattle.office_step.proofs.ForSale.{offered_shifts}
 use Rattle.office_step.proofs.opening.offered.Goals as goal
 
-pub returns-clause-shifts : goal.returns-clause-shifts
-returns-clause-shifts c = λ at lists.
-    offered_shifts c.plain.result.changes.list at lists c.plain.result.shifts (subst (λ (x : Changed). AreOfCatalogue x.list) (sym c.plain.ensures.changes) c.requires) c.plain.ensures.quotas c.plain.ensures.vouchers
+pub returns-clause-deltas : goal.returns-clause-deltas
+returns-clause-deltas c = λ at lists.
+    offered_shifts c.plain.result.changes.list at lists c.plain.result.deltas (subst (λ (x : Changed). AreOfCatalogue x.list) (sym c.plain.ensures.changes) c.requires) c.plain.ensures.quotas c.plain.ensures.vouchers

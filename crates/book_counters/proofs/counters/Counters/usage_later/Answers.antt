@@ -4,7 +4,7 @@ use Rattle.base_tables.proofs.Places.{row_at_gap}
 use Rattle.model_catalogue.specs.CatalogueLists.{CatalogueLists}
 use Rattle.model_rows.specs.Usage.{usage_of}
 use Rattle.book_counts_over_time.proofs.Later.{time_is}
-use Rattle.book_counts_over_time.proofs.ShiftLemmas.{kept_usage}
+use Rattle.book_counts_over_time.proofs.UsageUpdateLemmas.{kept_usage}
 use Rattle.book_counters.proofs.counters.Counters.usage_later.Goals as goal
 
 pub returns-in-Ok-clause-value : goal.returns-in-Ok-clause-value

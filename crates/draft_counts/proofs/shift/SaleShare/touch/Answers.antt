@@ -1,6 +1,6 @@
 use Rattle.std.proofs.Common.{◌&&◌, ap, ◌∙◌}
 use Rattle.book_tally.specs.Amounts.{nothing}
-use Rattle.draft_counts.specs.Shift.{once, sold_as}
+use Rattle.draft_counts.specs.CountDelta.{once, sold_as}
 use Rattle.draft_counts.proofs.Reached.{no_other_more}
 use Rattle.draft_counts.proofs.Sums.{none_sold}
 use Rattle.draft_counts.proofs.shift.SaleShare.touch.Goals as goal

@@ -1,5 +1,5 @@
 use Rattle.std.proofs.Common.{ap, ◌∙◌}
-use Rattle.draft_counts.specs.Shift.{usage_of_places}
+use Rattle.draft_counts.specs.CountDelta.{usage_of_places}
 use Rattle.draft_counts.proofs.Reached.{none_else_more}
 use Rattle.draft_counts.proofs.Sums.{none_placed}
 use Rattle.draft_counts.proofs.shift.SpotsShare.touch.Goals as goal

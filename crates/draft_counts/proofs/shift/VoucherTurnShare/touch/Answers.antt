@@ -3,7 +3,7 @@ use Rattle.model_catalogue.specs.declared.rows.Quota.{Quota}
 use Rattle.model_rows.specs.Usage.{blocks_if}
 use Rattle.model_rows.specs.Asked.{held_in}
 use Rattle.draft_overlay.specs.Logs.{rows_of}
-use Rattle.draft_counts.specs.Shift.{voucher_counts, left_of}
+use Rattle.draft_counts.specs.CountDelta.{voucher_counts, left_of}
 use Rattle.draft_counts.proofs.Reached.{no_other_more}
 use Rattle.draft_counts.proofs.shift.VoucherTurnShare.touch.Goals as goal
 

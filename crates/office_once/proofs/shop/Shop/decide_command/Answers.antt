@@ -7,5 +7,5 @@ returns g c = record {
       rw (← c.self.view_is) (done-command (g.W.Wording.words c.self.inside.wording) c.args.command.now c.args.at c.args.draw c.self.inside.office.state _ c.in_ok-drafted.reply c.in_ok-response.response
       c.in_ok-drafted.ensures.step.step c.in_ok-response.ensures);
   sound = rw (← c.self.view_is) c.in_ok-drafted.ensures.sound;
-  shifts = rw (← c.self.view_is) c.in_ok-drafted.ensures.step.shifts;
+  deltas = rw (← c.self.view_is) c.in_ok-drafted.ensures.step.deltas;
 }

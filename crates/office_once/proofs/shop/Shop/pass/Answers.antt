@@ -2,7 +2,7 @@ use Rattle.std.proofs.Common.{rules, ◌≡◌, ◌≤◌, [], ap, ◌∙◌, su
 use Rattle.base_values.specs.Moments.{last_moment}
 use Rattle.model_rows.specs.Change.{Changed}
 use Rattle.model_invariant.specs.Sound.{IsSound}
-use Rattle.office_once.proofs.ShopLemmas.{passed, passed-sound, passed-shifts}
+use Rattle.office_once.proofs.ShopLemmas.{passed, passed-sound, passed-deltas}
 use Rattle.office_once.proofs.shop.Shop.pass.Goals as goal
 
 pub returns-clause-passed : goal.returns-clause-passed
@@ -21,7 +21,7 @@ returns-clause-sound g c =
     let last : c.args.at ≤ last_moment = search rules in
     passed-sound c.plain.result.changes c.args.at c.args.self.now.state list next c.requires last sound
 
-pub returns-clause-shifts : goal.returns-clause-shifts
-returns-clause-shifts g c =
+pub returns-clause-deltas : goal.returns-clause-deltas
+returns-clause-deltas g c =
     let list : c.plain.result.changes.list ≡ [] = ap (λ (x : Changed). x.list) c.plain.ensures.changes ∙ (c.new-2.ensures.list ∙ c.new.ensures.items) in
-    passed-shifts c.args.self.now.state.lists c.args.at c.plain.result list c.plain.ensures.quotas c.plain.ensures.vouchers
+    passed-deltas c.args.self.now.state.lists c.args.at c.plain.result list c.plain.ensures.quotas c.plain.ensures.vouchers

@@ -6,7 +6,7 @@ use Rattle.base_tables.proofs.Places.{row_at_place}
 use Rattle.book_indexes.proofs.EntryLemmas.{map_at}
 use Rattle.model_catalogue.specs.declared.rows.Quota.{Quota}
 use Rattle.model_rows.specs.declared.rows.Usage.{Usage}
-use Rattle.book_counts_over_time.specs.Shifts.{map_beside}
+use Rattle.book_counts_over_time.specs.UsageUpdates.{map_beside}
 
 module _ {X Y : Type 0} (f : X → Y → Y) where
   pub map_beside_map : (a b : X → Y) (xs : List X) → ((x : X) → f x (a x) ≡ b x) → map_beside f xs (map a xs) ≡ map b xs

@@ -8,7 +8,7 @@ use std::alloc::Global;
 
 /// How much came to each count of a quota, and how much went, in places.
 #[derive(Clone, Copy)]
-pub struct QuotaShift {
+pub struct QuotaDelta {
     pub quota: u64,
     pub come: Usage,
     pub gone: Usage,
@@ -17,7 +17,7 @@ pub struct QuotaShift {
 /// How many uses of a voucher by positions of pending and paid orders came, and how many went; how many cents these took of
 /// its budget, and how many they gave back; and whether the voucher is a row after the changes.
 #[derive(Clone, Copy)]
-pub struct VoucherShift {
+pub struct VoucherDelta {
     pub voucher: u64,
     pub come: u64,
     pub gone: u64,
@@ -26,7 +26,7 @@ pub struct VoucherShift {
     pub stands: bool,
 }
 
-impl Row for QuotaShift {
+impl Row for QuotaDelta {
     ghost key = { λ s. s.quota };
 
     fn id(&self) -> u64 {
@@ -34,7 +34,7 @@ impl Row for QuotaShift {
     }
 }
 
-impl Row for VoucherShift {
+impl Row for VoucherDelta {
     ghost key = { λ s. s.voucher };
 
     fn id(&self) -> u64 {
@@ -44,18 +44,18 @@ impl Row for VoucherShift {
 
 /// What changes shift, by the ids of the quotas and of the vouchers. Where an id isn't there, nothing came or went.
 #[derive(Drop)]
-pub struct Shifts {
-    pub quotas: Vec<QuotaShift>,
-    pub vouchers: Vec<VoucherShift>,
+pub struct CountDeltas {
+    pub quotas: Vec<QuotaDelta>,
+    pub vouchers: Vec<VoucherDelta>,
 }
 
-impl Shifts {
+impl CountDeltas {
     /// Nothing came or went.
     pub fn none(alloc: Global) -> Self
         ensures quotas { result.quotas.items ≡ [] }
         ensures vouchers { result.vouchers.items ≡ [] }
     {
-        Shifts {
+        CountDeltas {
             quotas: Vec::new(alloc),
             vouchers: Vec::new(alloc),
         }
@@ -66,19 +66,19 @@ impl Shifts {
 #[derive(Drop)]
 pub struct Drafted {
     pub changes: Changes,
-    pub shifts: Shifts,
+    pub deltas: CountDeltas,
 }
 
 impl Drafted {
     /// Changes that shift no count: of what is for sale, or none at all.
     pub fn plain(alloc: Global, changes: Changes) -> Self
         ensures changes { result.changes ≡ changes }
-        ensures quotas { result.shifts.quotas.items ≡ [] }
-        ensures vouchers { result.shifts.vouchers.items ≡ [] }
+        ensures quotas { result.deltas.quotas.items ≡ [] }
+        ensures vouchers { result.deltas.vouchers.items ≡ [] }
     {
         Drafted {
             changes,
-            shifts: Shifts::none(alloc),
+            deltas: CountDeltas::none(alloc),
         }
     }
 }

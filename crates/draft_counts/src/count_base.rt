@@ -7,7 +7,7 @@ use std::alloc::Global;
 
 /// By what a change is counted: the rows that it changes, the moment, and the quotas of the catalogue.
 #[derive(Drop)]
-pub struct Basis<'o, 'a, B: Book> {
+pub struct CountBase<'o, 'a, B: Book> {
     pub overlay: &'o Overlay<'a, B>,
     pub alloc: Global,
     pub at: Moment,

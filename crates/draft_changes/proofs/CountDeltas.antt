@@ -33,12 +33,12 @@ use Rattle.book_usage.proofs.VoucherCounts.{carts_with}
 use Rattle.book_usage.specs.OfOrder.{count_ordered, if_stands}
 use Rattle.book_usage.specs.Shares.{cart_share, waiting_share, exited_share}
 use Rattle.draft_counts.specs.Logs.{Log, rows_of}
-use Rattle.draft_counts.specs.Shift.{left_of}
+use Rattle.draft_counts.specs.CountDelta.{left_of}
 use Rattle.draft_changes.specs.CanCome.{CanCome, KeepsHeadroom}
 use Rattle.model_rows.specs.declared.rows.Status.TheVariants.{Pending, Paid, Expired, Cancelled}
 use Rattle.book_tally.specs.Amounts.{nothing, plus}
 use Rattle.book_tally.proofs.AmountLemmas.{same_usage}
-use Rattle.draft_counts.specs.Shift.{order_side, keeps_status, come_of, gone_of}
+use Rattle.draft_counts.specs.CountDelta.{order_side, keeps_status, come_of, gone_of}
 
 -- count by count
 each_count : (u g v c : Usage) → u.paid + g.paid ≡ v.paid + c.paid → u.pending + g.pending ≡ v.pending + c.pending → u.blocked + g.blocked ≡ v.blocked + c.blocked → u.carts + g.carts ≡ v.carts + c.carts → u.waiting + g.waiting ≡ v.waiting + c.waiting → u.exited + g.exited ≡ v.exited + c.exited → plus u g ≡ plus v c
