@@ -17,7 +17,7 @@ use Rattle.file_reads.proofs.Back.{alike, shop_in, shop_back, item_in, item_back
 use Rattle.file_reads.proofs.Back.{list_in, list_back, list_item_in, list_item_back, checkin_in, checkin_back, count_in, count_back, token_in, token_back, kept_in, kept_back, release_in, release_back, exit_in, exit_back, budget_in, budget_back, spent_in, spent_back, discount_in, discount_back}
 use Rattle.file_scan.specs.declared.file.FileTables.{FileTables}
 use Rattle.file_scan.specs.Read.{IsFileOf, tables_of}
-use Rattle.file_scan.proofs.FitLemmas.{HoldsOfFirst}
+use Rattle.file_scan.proofs.FitLemmas.{HoldsOfVersion1}
 use Rattle.file_open.specs.Supplied.{lacking_exits, lacking_spents, none_out, none_spent, tables_supplied}
 
 -- each table has the same rows, in some order
@@ -63,7 +63,7 @@ take_all P zero xs h = tt
 take_all P (suc n) [] h = tt
 take_all P (suc n) (x ∷ xs) h = (h.0, take_all P n xs h.1)
 
-pub first_of : (version : ℕ) (db : Trees) (t : Tables) → HoldsAt (suc version) db t → HoldsOfFirst db t
+pub first_of : (version : ℕ) (db : Trees) (t : Tables) → HoldsAt (suc version) db t → HoldsOfVersion1 db t
 first_of zero db t h = h.shown
 first_of (suc zero) db t h = take_all (HoldsPart (schema_of_version 2) db) 17 (take 19 (parts t)) h.shown
 first_of (suc (suc version)) db t h = take_all (HoldsPart schema db) 17 (parts t) h.shown
@@ -76,7 +76,7 @@ record AreLaterAlike (t u : Tables) : Type 0 where
   spents : IsPermutation t.spents u.spents
   discounts : IsPermutation t.discounts u.discounts
 
-first_alike : (db : Trees) (t u : Tables) → HoldsOfFirst db t → HoldsOfFirst db u → AreLaterAlike t u → AreAlike t u
+first_alike : (db : Trees) (t u : Tables) → HoldsOfVersion1 db t → HoldsOfVersion1 db u → AreLaterAlike t u → AreAlike t u
 first_alike db t u h k later = record {
   shop = alike shop_row shop_in shop_back t.shop u.shop _ h.0 k.0;
   items = alike item_row item_in item_back t.items u.items _ h.1.0 k.1.0;

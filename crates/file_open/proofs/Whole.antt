@@ -23,7 +23,7 @@ use Rattle.file_scan.specs.Causes.{IsCauseAs, IsOneShop, ShowsBy}
 use Rattle.file_scan.specs.Lawful.{AreFit, AreFitAt, IsOfMachine}
 use Rattle.file_scan.specs.Read.{tables_of}
 use Rattle.file_scan.proofs.CauseLemmas.{one_is_ours}
-use Rattle.file_scan.proofs.FitLemmas.{HoldsOfFirst, HoldsOfSides, HoldsOfSums, has_tables, of_machine, undamaged_tables}
+use Rattle.file_scan.proofs.FitLemmas.{HoldsOfVersion1, HoldsOfVersion2, HoldsOfVersion3, has_tables, of_machine, undamaged_tables}
 use Rattle.file_scan.proofs.LimitLemmas.{sound_fits}
 use Rattle.file_tables.specs.Begun.{of_this_version}
 use Rattle.file_tables.proofs.Upgrades.{upgraded_stands}
@@ -39,21 +39,21 @@ use Rattle.file_open.proofs.Undamaged.{unbroken, undamaged}
 use Rattle.file_open.proofs.Upgraded.{told_as_it_is}
 
 -- the trees of a version show the rows of the tables that it has
-of_first : (own : ℕ) → 1 ≤ own → (db : Trees) (t : Tables) → HoldsAt own db t → HoldsOfFirst db t
+of_first : (own : ℕ) → 1 ≤ own → (db : Trees) (t : Tables) → HoldsAt own db t → HoldsOfVersion1 db t
 of_first zero from db t h = absurd (omega (arith, from))
 of_first (suc own) from db t h = first_of own db t h
 
-of_sides : (own : ℕ) (db : Trees) (t : Tables) → HoldsAt own db t → 2 ≤ own → HoldsOfSides db t
-of_sides zero db t h late = absurd (omega (arith, late))
-of_sides (suc zero) db t h late = absurd (omega (arith, late))
-of_sides (suc (suc zero)) db t h late = record { releases = h.shown.1.1.1.1.1.1.1.1.1.1.1.1.1.1.1.1.1.0; exits = h.shown.1.1.1.1.1.1.1.1.1.1.1.1.1.1.1.1.1.1.0 }
-of_sides (suc (suc (suc own))) db t h late = record { releases = h.shown.1.1.1.1.1.1.1.1.1.1.1.1.1.1.1.1.1.0; exits = h.shown.1.1.1.1.1.1.1.1.1.1.1.1.1.1.1.1.1.1.0 }
+of_version2 : (own : ℕ) (db : Trees) (t : Tables) → HoldsAt own db t → 2 ≤ own → HoldsOfVersion2 db t
+of_version2 zero db t h late = absurd (omega (arith, late))
+of_version2 (suc zero) db t h late = absurd (omega (arith, late))
+of_version2 (suc (suc zero)) db t h late = record { releases = h.shown.1.1.1.1.1.1.1.1.1.1.1.1.1.1.1.1.1.0; exits = h.shown.1.1.1.1.1.1.1.1.1.1.1.1.1.1.1.1.1.1.0 }
+of_version2 (suc (suc (suc own))) db t h late = record { releases = h.shown.1.1.1.1.1.1.1.1.1.1.1.1.1.1.1.1.1.0; exits = h.shown.1.1.1.1.1.1.1.1.1.1.1.1.1.1.1.1.1.1.0 }
 
-of_sums : (own : ℕ) (db : Trees) (t : Tables) → HoldsAt own db t → 3 ≤ own → HoldsOfSums db t
-of_sums zero db t h late = absurd (omega (arith, late))
-of_sums (suc zero) db t h late = absurd (omega (arith, late))
-of_sums (suc (suc zero)) db t h late = absurd (omega (arith, late))
-of_sums (suc (suc (suc own))) db t h late = record { budgets = h.shown.1.1.1.1.1.1.1.1.1.1.1.1.1.1.1.1.1.1.1.0; spents = h.shown.1.1.1.1.1.1.1.1.1.1.1.1.1.1.1.1.1.1.1.1.0; discounts = h.shown.1.1.1.1.1.1.1.1.1.1.1.1.1.1.1.1.1.1.1.1.1.0 }
+of_version3 : (own : ℕ) (db : Trees) (t : Tables) → HoldsAt own db t → 3 ≤ own → HoldsOfVersion3 db t
+of_version3 zero db t h late = absurd (omega (arith, late))
+of_version3 (suc zero) db t h late = absurd (omega (arith, late))
+of_version3 (suc (suc zero)) db t h late = absurd (omega (arith, late))
+of_version3 (suc (suc (suc own))) db t h late = record { budgets = h.shown.1.1.1.1.1.1.1.1.1.1.1.1.1.1.1.1.1.1.1.0; spents = h.shown.1.1.1.1.1.1.1.1.1.1.1.1.1.1.1.1.1.1.1.1.0; discounts = h.shown.1.1.1.1.1.1.1.1.1.1.1.1.1.1.1.1.1.1.1.1.1.0 }
 
 module _ (own : ℕ) (first : 1 ≤ own) (last : own ≤ this_version) (head : ShopRow) (t : Tables) (s : State) (ks : List Kept) (c : Connected) (its : HoldsShopAt own head t s ks c) (version : head.version ≡ own) where
   pub its_version : IsOfVersion own c.now
@@ -102,7 +102,7 @@ module _ (own : ℕ) (first : 1 ≤ own) (last : own ≤ this_version) (head : S
   read_whole NotAShop (inr h) = absurd (has_tables own first c.now.schema since h.2.1)
   read_whole (Version told) h = absurd (one_is_ours own h.0 (one_shop h.0 h.1) told h.2)
   read_whole (Damaged rule.Shop) h = absurd (h.2.2 (one_shop h.0 h.1))
-  read_whole (Damaged rule.Limits) h = absurd (undamaged_tables t c.now.trees (of_first own first c.now.trees t its.held) (of_sides own c.now.trees t its.held) (of_sums own c.now.trees t its.held) fit (h.2.2 since))
+  read_whole (Damaged rule.Limits) h = absurd (undamaged_tables t c.now.trees (of_first own first c.now.trees t its.held) (of_version2 own c.now.trees t its.held) (of_version3 own c.now.trees t its.held) fit (h.2.2 since))
   read_whole (Damaged rule.Ids) h = absurd h
   read_whole (Damaged rule.Names) h = absurd h
   read_whole (Damaged rule.Positions) h = absurd h

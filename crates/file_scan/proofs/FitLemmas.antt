@@ -47,8 +47,8 @@ use Rattle.file_scan.specs.declared.error.OpenError.TheVariants.{Memory, NotASho
 use Rattle.model_rules.specs.declared.rule.Rule.TheVariants as rule
 use Rattle.file_scan.specs.declared.file.FileTables.{FileTables}
 use Rattle.file_rows.specs.declared.table_rows.TableRows.{TableRows}
-use Rattle.file_scan.specs.Read.{HoldsFirst, HoldsSides, HoldsSums, HoldsRows, tables_of}
-use Rattle.file_scan.specs.Causes.{rows_at, LacksCatalogue, LacksSales, LacksDoors, LacksOthers, LacksSides, LacksSums, LacksTable, IsDamagedCatalogue, AreDamagedSales, AreDamagedDoors, AreDamagedOthers, AreDamagedSides, AreDamagedSums, HasTables, HasDamage, IsReadable, IsReadableAs, ShowsBy, OfTheShop, HasNoOtherVersion, IsOneShop, IsCause}
+use Rattle.file_scan.specs.Read.{HoldsVersion1, HoldsVersion2, HoldsVersion3, HoldsRows, tables_of}
+use Rattle.file_scan.specs.Causes.{rows_at, LacksCatalogue, LacksSales, LacksDoors, LacksOthers, LacksVersion2, LacksVersion3, LacksTable, IsDamagedCatalogue, AreDamagedSales, AreDamagedDoors, AreDamagedOthers, AreVersion2Damaged, AreVersion3Damaged, HasTables, HasDamage, IsReadable, IsReadableAs, ShowsBy, OfTheShop, HasNoOtherVersion, IsOneShop, IsCause}
 use Rattle.file_scan.specs.Fits.{IsFitFile}
 use Rattle.file_scan.specs.Lawful.{AreFit, AreFitAt, IsOfMachine}
 use Rattle.file_scan.proofs.CauseLemmas.{shows_rows, one_is_ours, version_told}
@@ -60,86 +60,86 @@ all_free [] = All-nil (λ w. Unit {0})
 all_free (x ∷ xs) = All-cons (λ w. Unit {0}) x xs tt (all_free xs)
 
 -- the trees show the rows of the tables of the first version
-abbrev pub HoldsOfFirst : Trees → Tables → Type 0
-HoldsOfFirst db t = HoldParts schema db (take 17 (parts t))
+abbrev pub HoldsOfVersion1 : Trees → Tables → Type 0
+HoldsOfVersion1 db t = HoldParts schema db (take 17 (parts t))
 
 -- and those of the second
-abbrev pub HoldsOfSides : Trees → Tables → Type 0
-HoldsOfSides db t = HoldsSides db t.releases t.exits
+abbrev pub HoldsOfVersion2 : Trees → Tables → Type 0
+HoldsOfVersion2 db t = HoldsVersion2 db t.releases t.exits
 
 -- and those of the third
-abbrev pub HoldsOfSums : Trees → Tables → Type 0
-HoldsOfSums db t = HoldsSums db t.budgets t.spents t.discounts
+abbrev pub HoldsOfVersion3 : Trees → Tables → Type 0
+HoldsOfVersion3 db t = HoldsVersion3 db t.budgets t.spents t.discounts
 
 -- those of the first are the same tables in each version
-first_of : (db : Trees) (t : Tables) → Holds db t → HoldsOfFirst db t
+first_of : (db : Trees) (t : Tables) → Holds db t → HoldsOfVersion1 db t
 first_of db t h =
     let sales = h.1.1.1.1.1.1 in
     let doors = sales.1.1.1.1.1 in
     let others = doors.1.1.1 in
     (h.0, (h.1.0, (h.1.1.0, (h.1.1.1.0, (h.1.1.1.1.0, (h.1.1.1.1.1.0, (sales.0, (sales.1.0, (sales.1.1.0, (sales.1.1.1.0, (sales.1.1.1.1.0, (doors.0, (doors.1.0, (doors.1.1.0, (others.0, (others.1.0, (others.1.1.0, tt)))))))))))))))))
 
-sides_of : (db : Trees) (t : Tables) → Holds db t → HoldsOfSides db t
-sides_of db t h = record { releases = h.1.1.1.1.1.1.1.1.1.1.1.1.1.1.1.1.1.0; exits = h.1.1.1.1.1.1.1.1.1.1.1.1.1.1.1.1.1.1.0 }
+version2_of : (db : Trees) (t : Tables) → Holds db t → HoldsOfVersion2 db t
+version2_of db t h = record { releases = h.1.1.1.1.1.1.1.1.1.1.1.1.1.1.1.1.1.0; exits = h.1.1.1.1.1.1.1.1.1.1.1.1.1.1.1.1.1.1.0 }
 
-sums_of : (db : Trees) (t : Tables) → Holds db t → HoldsOfSums db t
-sums_of db t h = record { budgets = h.1.1.1.1.1.1.1.1.1.1.1.1.1.1.1.1.1.1.1.0; spents = h.1.1.1.1.1.1.1.1.1.1.1.1.1.1.1.1.1.1.1.1.0; discounts = h.1.1.1.1.1.1.1.1.1.1.1.1.1.1.1.1.1.1.1.1.1.0 }
+version3_of : (db : Trees) (t : Tables) → Holds db t → HoldsOfVersion3 db t
+version3_of db t h = record { budgets = h.1.1.1.1.1.1.1.1.1.1.1.1.1.1.1.1.1.1.1.0; spents = h.1.1.1.1.1.1.1.1.1.1.1.1.1.1.1.1.1.1.1.1.0; discounts = h.1.1.1.1.1.1.1.1.1.1.1.1.1.1.1.1.1.1.1.1.1.0 }
 
 -- those of the second are the first tables in the third
-second_of : (db : Trees) (t : Tables) → HoldsOfFirst db t → HoldsOfSides db t → HoldParts schema db (take 19 (parts t))
+second_of : (db : Trees) (t : Tables) → HoldsOfVersion1 db t → HoldsOfVersion2 db t → HoldParts schema db (take 19 (parts t))
 second_of db t h k =
     let sales = h.1.1.1.1.1.1 in
     let doors = sales.1.1.1.1.1 in
     let others = doors.1.1.1 in
     (h.0, (h.1.0, (h.1.1.0, (h.1.1.1.0, (h.1.1.1.1.0, (h.1.1.1.1.1.0, (sales.0, (sales.1.0, (sales.1.1.0, (sales.1.1.1.0, (sales.1.1.1.1.0, (doors.0, (doors.1.0, (doors.1.1.0, (others.0, (others.1.0, (others.1.1.0, (k.releases, (k.exits, tt)))))))))))))))))))
 
-all_of : (db : Trees) (t : Tables) → HoldsOfFirst db t → HoldsOfSides db t → HoldsOfSums db t → Holds db t
+all_of : (db : Trees) (t : Tables) → HoldsOfVersion1 db t → HoldsOfVersion2 db t → HoldsOfVersion3 db t → Holds db t
 all_of db t h k m =
     let sales = h.1.1.1.1.1.1 in
     let doors = sales.1.1.1.1.1 in
     let others = doors.1.1.1 in
     (h.0, (h.1.0, (h.1.1.0, (h.1.1.1.0, (h.1.1.1.1.0, (h.1.1.1.1.1.0, (sales.0, (sales.1.0, (sales.1.1.0, (sales.1.1.1.0, (sales.1.1.1.1.0, (doors.0, (doors.1.0, (doors.1.1.0, (others.0, (others.1.0, (others.1.1.0, (k.releases, (k.exits, (m.budgets, (m.spents, (m.discounts, tt))))))))))))))))))))))
 
-whole_catalogue : {own : ℕ} (t : Tables) (db : Trees) → HoldsOfFirst db t → AreFitAt own t → IsDamagedCatalogue db → ⊥
+whole_catalogue : {own : ℕ} (t : Tables) (db : Trees) → HoldsOfVersion1 db t → AreFitAt own t → IsDamagedCatalogue db → ⊥
 whole_catalogue t db held fit (inl bad) = undamaged item_row IsFitItem t.items (rows_at db 1) fit.items held.1.0 bad
 whole_catalogue t db held fit (inr (inl bad)) = undamaged variation_row IsFitVariation t.variations (rows_at db 2) fit.variations held.1.1.0 bad
 whole_catalogue t db held fit (inr (inr (inl bad))) = undamaged quota_row IsFitQuota t.quotas (rows_at db 3) fit.quotas held.1.1.1.0 bad
 whole_catalogue t db held fit (inr (inr (inr (inl bad)))) = undamaged quota_item_row (λ w. Unit {0}) t.quota_items (rows_at db 4) (all_free t.quota_items) held.1.1.1.1.0 bad
 whole_catalogue t db held fit (inr (inr (inr (inr bad)))) = undamaged quota_variation_row (λ w. Unit {0}) t.quota_variations (rows_at db 6) (all_free t.quota_variations) held.1.1.1.1.1.0 bad
 
-whole_sales : {own : ℕ} (t : Tables) (db : Trees) → HoldsOfFirst db t → AreFitAt own t → AreDamagedSales db → ⊥
+whole_sales : {own : ℕ} (t : Tables) (db : Trees) → HoldsOfVersion1 db t → AreFitAt own t → AreDamagedSales db → ⊥
 whole_sales t db held fit (inl bad) = undamaged voucher_row IsFitVoucher t.vouchers (rows_at db 8) fit.vouchers held.1.1.1.1.1.1.0 bad
 whole_sales t db held fit (inr (inl bad)) = undamaged cart_row IsFitCart t.carts (rows_at db 10) fit.carts held.1.1.1.1.1.1.1.0 bad
 whole_sales t db held fit (inr (inr (inl bad))) = undamaged order_row IsFitOrder t.orders (rows_at db 11) fit.orders held.1.1.1.1.1.1.1.1.0 bad
 whole_sales t db held fit (inr (inr (inr (inl bad)))) = undamaged position_row IsFitPosition t.positions (rows_at db 12) fit.positions held.1.1.1.1.1.1.1.1.1.0 bad
 whole_sales t db held fit (inr (inr (inr (inr bad)))) = undamaged waiting_row IsFitWaiting t.waiting (rows_at db 15) fit.waiting held.1.1.1.1.1.1.1.1.1.1.0 bad
 
-whole_doors : {own : ℕ} (t : Tables) (db : Trees) → HoldsOfFirst db t → AreFitAt own t → AreDamagedDoors db → ⊥
+whole_doors : {own : ℕ} (t : Tables) (db : Trees) → HoldsOfVersion1 db t → AreFitAt own t → AreDamagedDoors db → ⊥
 whole_doors t db held fit (inl bad) = undamaged list_row IsFitList t.checkin_lists (rows_at db 16) fit.checkin_lists held.1.1.1.1.1.1.1.1.1.1.1.0 bad
 whole_doors t db held fit (inr (inl bad)) = undamaged list_item_row (λ w. Unit {0}) t.list_items (rows_at db 17) (all_free t.list_items) held.1.1.1.1.1.1.1.1.1.1.1.1.0 bad
 whole_doors t db held fit (inr (inr bad)) = undamaged checkin_row IsFitCheckin t.checkins (rows_at db 19) fit.checkins held.1.1.1.1.1.1.1.1.1.1.1.1.1.0 bad
 
-whole_others : {own : ℕ} (t : Tables) (db : Trees) → HoldsOfFirst db t → AreFitAt own t → AreDamagedOthers db → ⊥
+whole_others : {own : ℕ} (t : Tables) (db : Trees) → HoldsOfVersion1 db t → AreFitAt own t → AreDamagedOthers db → ⊥
 whole_others t db held fit (inl bad) = undamaged count_row (λ w. Unit {0}) t.counts (rows_at db 21) (all_free t.counts) held.1.1.1.1.1.1.1.1.1.1.1.1.1.1.0 bad
 whole_others t db held fit (inr (inl bad)) = undamaged token_row IsFitToken t.tokens (rows_at db 22) fit.tokens held.1.1.1.1.1.1.1.1.1.1.1.1.1.1.1.0 bad
 whole_others t db held fit (inr (inr bad)) = undamaged kept_row IsFitKept t.kept (rows_at db 24) fit.kept held.1.1.1.1.1.1.1.1.1.1.1.1.1.1.1.1.0 bad
 
-whole_sides : (t : Tables) (db : Trees) → HoldsOfSides db t → AreDamagedSides db → ⊥
-whole_sides t db held (inl bad) = undamaged release_row (λ w. Unit {0}) t.releases (rows_at db 27) (all_free t.releases) held.releases bad
-whole_sides t db held (inr bad) = undamaged exit_row (λ w. Unit {0}) t.exits (rows_at db 28) (all_free t.exits) held.exits bad
+whole_version2 : (t : Tables) (db : Trees) → HoldsOfVersion2 db t → AreVersion2Damaged db → ⊥
+whole_version2 t db held (inl bad) = undamaged release_row (λ w. Unit {0}) t.releases (rows_at db 27) (all_free t.releases) held.releases bad
+whole_version2 t db held (inr bad) = undamaged exit_row (λ w. Unit {0}) t.exits (rows_at db 28) (all_free t.exits) held.exits bad
 
-whole_sums : {own : ℕ} (t : Tables) (db : Trees) → HoldsOfSums db t → AreFitAt own t → AreDamagedSums db → ⊥
-whole_sums t db held fit (inl bad) = undamaged budget_row IsFitBudget t.budgets (rows_at db 29) fit.budgets held.budgets bad
-whole_sums t db held fit (inr (inl bad)) = undamaged spent_row (λ w. Unit {0}) t.spents (rows_at db 30) (all_free t.spents) held.spents bad
-whole_sums t db held fit (inr (inr bad)) = undamaged discount_row IsFitDiscount t.discounts (rows_at db 31) fit.discounts held.discounts bad
+whole_version3 : {own : ℕ} (t : Tables) (db : Trees) → HoldsOfVersion3 db t → AreFitAt own t → AreVersion3Damaged db → ⊥
+whole_version3 t db held fit (inl bad) = undamaged budget_row IsFitBudget t.budgets (rows_at db 29) fit.budgets held.budgets bad
+whole_version3 t db held fit (inr (inl bad)) = undamaged spent_row (λ w. Unit {0}) t.spents (rows_at db 30) (all_free t.spents) held.spents bad
+whole_version3 t db held fit (inr (inr bad)) = undamaged discount_row IsFitDiscount t.discounts (rows_at db 31) fit.discounts held.discounts bad
 
-pub undamaged_tables : {own : ℕ} (t : Tables) (db : Trees) → HoldsOfFirst db t → (2 ≤ own → HoldsOfSides db t) → (3 ≤ own → HoldsOfSums db t) → AreFitAt own t → HasDamage own db → ⊥
-undamaged_tables t db held sides sums fit (inl (inl bad)) = whole_catalogue t db held fit bad
-undamaged_tables t db held sides sums fit (inl (inr (inl bad))) = whole_sales t db held fit bad
-undamaged_tables t db held sides sums fit (inl (inr (inr (inl bad)))) = whole_doors t db held fit bad
-undamaged_tables t db held sides sums fit (inl (inr (inr (inr bad)))) = whole_others t db held fit bad
-undamaged_tables t db held sides sums fit (inr (inl bad)) = whole_sides t db (sides bad.0) bad.1
-undamaged_tables t db held sides sums fit (inr (inr bad)) = whole_sums t db (sums bad.0) fit bad.1
+pub undamaged_tables : {own : ℕ} (t : Tables) (db : Trees) → HoldsOfVersion1 db t → (2 ≤ own → HoldsOfVersion2 db t) → (3 ≤ own → HoldsOfVersion3 db t) → AreFitAt own t → HasDamage own db → ⊥
+undamaged_tables t db held version2 version3 fit (inl (inl bad)) = whole_catalogue t db held fit bad
+undamaged_tables t db held version2 version3 fit (inl (inr (inl bad))) = whole_sales t db held fit bad
+undamaged_tables t db held version2 version3 fit (inl (inr (inr (inl bad)))) = whole_doors t db held fit bad
+undamaged_tables t db held version2 version3 fit (inl (inr (inr (inr bad)))) = whole_others t db held fit bad
+undamaged_tables t db held version2 version3 fit (inr (inl bad)) = whole_version2 t db (version2 bad.0) bad.1
+undamaged_tables t db held version2 version3 fit (inr (inr bad)) = whole_version3 t db (version3 bad.0) fit bad.1
 
 -- ---- our tables lack none
 
@@ -167,14 +167,14 @@ has_others s known (inl none) = lacks_none of_counts.select_text _ [] (of_counts
 has_others s known (inr (inl none)) = lacks_none of_tokens.select_text _ [] (of_tokens.select_since s known) s refl none
 has_others s known (inr (inr none)) = lacks_none of_kept.select_text _ [] (of_kept.select_since s known) s refl none
 
-has_sides : (s : Schema) → IsSince 2 s → LacksSides s → ⊥
-has_sides s known (inl none) = lacks_none of_releases.select_text _ [] (of_releases.select_since s known) s refl none
-has_sides s known (inr none) = lacks_none of_exits.select_text _ [] (of_exits.select_since s known) s refl none
+has_version2 : (s : Schema) → IsSince 2 s → LacksVersion2 s → ⊥
+has_version2 s known (inl none) = lacks_none of_releases.select_text _ [] (of_releases.select_since s known) s refl none
+has_version2 s known (inr none) = lacks_none of_exits.select_text _ [] (of_exits.select_since s known) s refl none
 
-has_sums : (s : Schema) → IsSince 3 s → LacksSums s → ⊥
-has_sums s known (inl none) = lacks_none of_budgets.select_text _ [] (of_budgets.select_since s known) s refl none
-has_sums s known (inr (inl none)) = lacks_none of_spents.select_text _ [] (of_spents.select_since s known) s refl none
-has_sums s known (inr (inr none)) = lacks_none of_discounts.select_text _ [] (of_discounts.select_since s known) s refl none
+has_version3 : (s : Schema) → IsSince 3 s → LacksVersion3 s → ⊥
+has_version3 s known (inl none) = lacks_none of_budgets.select_text _ [] (of_budgets.select_since s known) s refl none
+has_version3 s known (inr (inl none)) = lacks_none of_spents.select_text _ [] (of_spents.select_since s known) s refl none
+has_version3 s known (inr (inr none)) = lacks_none of_discounts.select_text _ [] (of_discounts.select_since s known) s refl none
 
 -- of a version those that it has
 pub has_tables : (own : ℕ) → 1 ≤ own → (s : Schema) → IsSince own s → LacksTable own s → ⊥
@@ -182,8 +182,8 @@ has_tables own first s known (inl (inl none)) = has_catalogue s (since_before 1 
 has_tables own first s known (inl (inr (inl none))) = has_sales s (since_before 1 own first s known) none
 has_tables own first s known (inl (inr (inr (inl none)))) = has_doors s (since_before 1 own first s known) none
 has_tables own first s known (inl (inr (inr (inr none)))) = has_others s (since_before 1 own first s known) none
-has_tables own first s known (inr (inl none)) = has_sides s (since_before 2 own none.0 s known) none.1
-has_tables own first s known (inr (inr none)) = has_sums s (since_before 3 own none.0 s known) none.1
+has_tables own first s known (inr (inl none)) = has_version2 s (since_before 2 own none.0 s known) none.1
+has_tables own first s known (inr (inr none)) = has_version3 s (since_before 3 own none.0 s known) none.1
 
 -- ---- the shop's row
 
@@ -228,7 +228,7 @@ module _ (db : Database) (known : db.schema ≡ schema) where
   clear of whole Store h = tt
 
   pub of_machine : (t : Tables) → Holds db.trees t → AreFit t → (e : OpenError) → IsCause db e → IsOfMachine e
-  of_machine t held fit = clear (shop_stands t db known held fit) (undamaged_tables t db.trees (first_of db.trees t held) (λ later. sides_of db.trees t held) (λ later. sums_of db.trees t held) fit)
+  of_machine t held fit = clear (shop_stands t db known held fit) (undamaged_tables t db.trees (first_of db.trees t held) (λ later. version2_of db.trees t held) (λ later. version3_of db.trees t held) fit)
 
   pub of_readable : IsReadable db → (e : OpenError) → IsCause db e → IsOfMachine e
   of_readable r = clear (shown_again db known r.shop) (r.values (since_this this_version (omega arith) db.schema known))
@@ -281,16 +281,16 @@ module _ (from : ℕ) (t : Tables) (db : Database) (known : db.schema ≡ schema
 -- ---- a file that was read
 
 -- as a file of this version
-pub held_at : (own : ℕ) → 1 ≤ own → own ≤ this_version → (db : Trees) (file : FileTables) → HoldsOfFirst db (tables_of file) → HoldsRows own db file.tables → HoldsAt own db (tables_of file)
+pub held_at : (own : ℕ) → 1 ≤ own → own ≤ this_version → (db : Trees) (file : FileTables) → HoldsOfVersion1 db (tables_of file) → HoldsRows own db file.tables → HoldsAt own db (tables_of file)
 held_at zero first last db file h rows = absurd (omega (arith, first))
 held_at (suc zero) first last db file h rows =
-    let sides = rows.no_sides (omega arith) in
-    let sums = rows.no_sums (omega arith) in
-    record { shown = h; none = (ap (map release_row) sides.releases, (ap (map exit_row) sides.exits, (ap (map budget_row) sums.budgets, (ap (map spent_row) sums.spents, (ap (map discount_row) sums.discounts, tt))))) }
+    let version2 = rows.no_version2 (omega arith) in
+    let version3 = rows.no_version3 (omega arith) in
+    record { shown = h; none = (ap (map release_row) version2.releases, (ap (map exit_row) version2.exits, (ap (map budget_row) version3.budgets, (ap (map spent_row) version3.spents, (ap (map discount_row) version3.discounts, tt))))) }
 held_at (suc (suc zero)) first last db file h rows =
-    let sums = rows.no_sums (omega arith) in
-    record { shown = second_of db (tables_of file) h (rows.sides (omega arith)); none = (ap (map budget_row) sums.budgets, (ap (map spent_row) sums.spents, (ap (map discount_row) sums.discounts, tt))) }
-held_at (suc (suc (suc zero))) first last db file h rows = record { shown = all_of db (tables_of file) h (rows.sides (omega arith)) (rows.sums (omega arith)); none = tt }
+    let version3 = rows.no_version3 (omega arith) in
+    record { shown = second_of db (tables_of file) h (rows.version2 (omega arith)); none = (ap (map budget_row) version3.budgets, (ap (map spent_row) version3.spents, (ap (map discount_row) version3.discounts, tt))) }
+held_at (suc (suc (suc zero))) first last db file h rows = record { shown = all_of db (tables_of file) h (rows.version2 (omega arith)) (rows.version3 (omega arith)); none = tt }
 held_at (suc (suc (suc (suc own)))) first last db file h rows = absurd (omega (arith, last))
 
 pub fit_read : {own : ℕ} (file : FileTables) → file.shop.version ≡ own → IsFitFile file → AreFitAt own (tables_of file)
@@ -317,7 +317,7 @@ fit_read file first fit = record {
 }
 
 -- the trees hold what was read
-pub read_holds : (db : Database) (rows : List Row) (file : FileTables) → IsSince 1 db.schema → ShowsBy of_shop.select_text db rows → rows ≡ shop_row file.shop ∷ [] → HoldsFirst db.trees file.tables → HoldsOfFirst db.trees (tables_of file)
+pub read_holds : (db : Database) (rows : List Row) (file : FileTables) → IsSince 1 db.schema → ShowsBy of_shop.select_text db rows → rows ≡ shop_row file.shop ∷ [] → HoldsVersion1 db.trees file.tables → HoldsOfVersion1 db.trees (tables_of file)
 read_holds db rows file known shows is held =
     let shop = subst (λ l. IsPermutation l (rows_at db.trees 0)) is (shows_rows of_shop.select_text 0 (of_shop.select_since db.schema known) db refl rows shows) in
     let a = held.catalogue in
@@ -333,6 +333,6 @@ readable own from db rows o (Ok file) shows is first some fit has held = record 
   tables = has;
   values = λ known.
       let rows_in = was_some o file.tables (HoldsRows own db.trees) some (held known) in
-      undamaged_tables (tables_of file) db.trees (read_holds db rows file (since_before 1 own from db.schema known) shows is rows_in.first) rows_in.sides rows_in.sums (fit_read file first fit);
+      undamaged_tables (tables_of file) db.trees (read_holds db rows file (since_before 1 own from db.schema known) shows is rows_in.first) rows_in.version2 rows_in.version3 (fit_read file first fit);
 }
 readable own from db rows o (Err e) shows is first some fit has held = tt

@@ -8,59 +8,59 @@ use Rattle.file_reads.specs.Since.{IsSince}
 use Rattle.file_reads.specs.Damage.{IsFor}
 use Rattle.file_reads.proofs.Causes.{for}
 use Rattle.file_reads.proofs.SinceLemmas.{since_before}
-use Rattle.file_scan.specs.Causes.{LacksFirst, LacksSides, LacksSums, LacksTable, HasFirstDamage, AreDamagedSides, AreDamagedSums, HasDamage}
-use Rattle.file_scan.specs.Read.{HoldsFirst, HoldsSides, HoldsSums, HoldsRows, HasNoSides, HasNoSums}
+use Rattle.file_scan.specs.Causes.{LacksVersion1, LacksVersion2, LacksVersion3, LacksTable, HasVersion1Damage, AreVersion2Damaged, AreVersion3Damaged, HasDamage}
+use Rattle.file_scan.specs.Read.{HoldsVersion1, HoldsVersion2, HoldsVersion3, HoldsRows, HasNoVersion2, HasNoVersion3}
 
 -- ---- of the first version
 
-pub is_first : (own : ℕ) → own ≤ 1 → (db : Trees) (rows : TableRows) → HoldsFirst db rows → HasNoSides rows × HasNoSums rows → HoldsRows own db rows
+pub is_first : (own : ℕ) → own ≤ 1 → (db : Trees) (rows : TableRows) → HoldsVersion1 db rows → HasNoVersion2 rows × HasNoVersion3 rows → HoldsRows own db rows
 is_first own small db rows held none = record {
   first = held;
-  sides = λ late. absurd (omega (arith, small, late));
-  sums = λ late. absurd (omega (arith, small, late));
-  no_sides = λ _. none.0;
-  no_sums = λ _. none.1;
+  version2 = λ late. absurd (omega (arith, small, late));
+  version3 = λ late. absurd (omega (arith, small, late));
+  no_version2 = λ _. none.0;
+  no_version3 = λ _. none.1;
 }
 
-pub first_for : (own : ℕ) → 1 ≤ own → (db : Database) (e : RowError) → IsFor (LacksFirst db.schema) (IsSince 1 db.schema → HasFirstDamage db.trees) e → IsFor (LacksTable own db.schema) (IsSince own db.schema → HasDamage own db.trees) e
+pub first_for : (own : ℕ) → 1 ≤ own → (db : Database) (e : RowError) → IsFor (LacksVersion1 db.schema) (IsSince 1 db.schema → HasVersion1Damage db.trees) e → IsFor (LacksTable own db.schema) (IsSince own db.schema → HasDamage own db.trees) e
 first_for own from db = for _ _ _ _ (λ lacks. inl lacks) (λ bad known. inl (bad (since_before 1 own from db.schema known)))
 
 -- ---- of the second
 
-pub is_second : (own : ℕ) → 2 ≤ own → own ≤ 2 → (db : Trees) (rows : TableRows) → HoldsFirst db rows × HoldsSides db rows.catalogue.releases.items rows.others.exits.items → HasNoSums rows → HoldsRows own db rows
+pub is_second : (own : ℕ) → 2 ≤ own → own ≤ 2 → (db : Trees) (rows : TableRows) → HoldsVersion1 db rows × HoldsVersion2 db rows.catalogue.releases.items rows.others.exits.items → HasNoVersion3 rows → HoldsRows own db rows
 is_second own late small db rows held none = record {
   first = held.0;
-  sides = λ _. held.1;
-  sums = λ later. absurd (omega (arith, small, later));
-  no_sides = λ early. absurd (omega (arith, late, early));
-  no_sums = λ _. none;
+  version2 = λ _. held.1;
+  version3 = λ later. absurd (omega (arith, small, later));
+  no_version2 = λ early. absurd (omega (arith, late, early));
+  no_version3 = λ _. none;
 }
 
-pub second_for : (own : ℕ) → 2 ≤ own → (db : Database) (e : RowError) → IsFor (LacksFirst db.schema ⊎ LacksSides db.schema) (IsSince 2 db.schema → HasFirstDamage db.trees ⊎ AreDamagedSides db.trees) e
+pub second_for : (own : ℕ) → 2 ≤ own → (db : Database) (e : RowError) → IsFor (LacksVersion1 db.schema ⊎ LacksVersion2 db.schema) (IsSince 2 db.schema → HasVersion1Damage db.trees ⊎ AreVersion2Damaged db.trees) e
     → IsFor (LacksTable own db.schema) (IsSince own db.schema → HasDamage own db.trees) e
 second_for own late db =
-    for _ _ _ _ (λ lacks. elim lacks [ inl first ↦ inl first | inr sides ↦ inr (inl (late, sides)) ]) (λ bad known. elim (bad (since_before 2 own late db.schema known)) [ inl first ↦ inl first | inr sides ↦ inr (inl (late, sides)) ])
+    for _ _ _ _ (λ lacks. elim lacks [ inl first ↦ inl first | inr version2 ↦ inr (inl (late, version2)) ]) (λ bad known. elim (bad (since_before 2 own late db.schema known)) [ inl first ↦ inl first | inr version2 ↦ inr (inl (late, version2)) ])
 
 -- ---- of the third, and of each behind it
 
 pub is_third : (own : ℕ) → 3 ≤ own → (db : Trees) (r : Result TableRows RowError)
-    → IfOk r (λ rows. HoldsFirst db rows × (HoldsSides db rows.catalogue.releases.items rows.others.exits.items × HoldsSums db rows.sales.budgets.items rows.others.spents.items rows.sales.discounts.items)) → IfOk r (HoldsRows own db)
+    → IfOk r (λ rows. HoldsVersion1 db rows × (HoldsVersion2 db rows.catalogue.releases.items rows.others.exits.items × HoldsVersion3 db rows.sales.budgets.items rows.others.spents.items rows.sales.discounts.items)) → IfOk r (HoldsRows own db)
 is_third own late db (Ok rows) h = record {
   first = h.0;
-  sides = λ _. h.1.0;
-  sums = λ _. h.1.1;
-  no_sides = λ early. absurd (omega (arith, late, early));
-  no_sums = λ early. absurd (omega (arith, late, early));
+  version2 = λ _. h.1.0;
+  version3 = λ _. h.1.1;
+  no_version2 = λ early. absurd (omega (arith, late, early));
+  no_version3 = λ early. absurd (omega (arith, late, early));
 }
 is_third own late db (Err e) h = tt
 
 -- a table of some version lacks, as one that this version has
-third_lacks : (own : ℕ) → 3 ≤ own → (first sides sums : Type 0) → first ⊎ (sides ⊎ sums) → first ⊎ (((2 ≤ own) × sides) ⊎ ((3 ≤ own) × sums))
-third_lacks own late first sides sums (inl h) = inl h
-third_lacks own late first sides sums (inr (inl h)) = inr (inl (omega (arith, late), h))
-third_lacks own late first sides sums (inr (inr h)) = inr (inr (late, h))
+third_lacks : (own : ℕ) → 3 ≤ own → (first version2 version3 : Type 0) → first ⊎ (version2 ⊎ version3) → first ⊎ (((2 ≤ own) × version2) ⊎ ((3 ≤ own) × version3))
+third_lacks own late first version2 version3 (inl h) = inl h
+third_lacks own late first version2 version3 (inr (inl h)) = inr (inl (omega (arith, late), h))
+third_lacks own late first version2 version3 (inr (inr h)) = inr (inr (late, h))
 
 pub third_for : (own : ℕ) → 3 ≤ own → (db : Database) (e : RowError)
-    → IsFor (LacksFirst db.schema ⊎ (LacksSides db.schema ⊎ LacksSums db.schema)) (IsSince 3 db.schema → HasFirstDamage db.trees ⊎ (AreDamagedSides db.trees ⊎ AreDamagedSums db.trees)) e
+    → IsFor (LacksVersion1 db.schema ⊎ (LacksVersion2 db.schema ⊎ LacksVersion3 db.schema)) (IsSince 3 db.schema → HasVersion1Damage db.trees ⊎ (AreVersion2Damaged db.trees ⊎ AreVersion3Damaged db.trees)) e
     → IsFor (LacksTable own db.schema) (IsSince own db.schema → HasDamage own db.trees) e
 third_for own late db = for _ _ _ _ (third_lacks own late _ _ _) (λ bad known. third_lacks own late _ _ _ (bad (since_before 3 own late db.schema known)))

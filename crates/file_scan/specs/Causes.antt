@@ -41,20 +41,20 @@ abbrev pub LacksOthers : Schema → Type 0
 LacksOthers s = HasNoMeaning s counts_text ⊎ (HasNoMeaning s tokens_text ⊎ HasNoMeaning s kept_text)
 
 -- a table of the first version, beside the shop's own
-abbrev pub LacksFirst : Schema → Type 0
-LacksFirst s = LacksCatalogue s ⊎ (LacksSales s ⊎ (LacksDoors s ⊎ LacksOthers s))
+abbrev pub LacksVersion1 : Schema → Type 0
+LacksVersion1 s = LacksCatalogue s ⊎ (LacksSales s ⊎ (LacksDoors s ⊎ LacksOthers s))
 
 -- a table of the second version
-abbrev pub LacksSides : Schema → Type 0
-LacksSides s = HasNoMeaning s releases_text ⊎ HasNoMeaning s exits_text
+abbrev pub LacksVersion2 : Schema → Type 0
+LacksVersion2 s = HasNoMeaning s releases_text ⊎ HasNoMeaning s exits_text
 
 -- a table of the third version, the sums of money: budgets, what is spent of vouchers, discounts
-abbrev pub LacksSums : Schema → Type 0
-LacksSums s = HasNoMeaning s budgets_text ⊎ (HasNoMeaning s spents_text ⊎ HasNoMeaning s discounts_text)
+abbrev pub LacksVersion3 : Schema → Type 0
+LacksVersion3 s = HasNoMeaning s budgets_text ⊎ (HasNoMeaning s spents_text ⊎ HasNoMeaning s discounts_text)
 
 -- a table that this version has, beside the shop's own
 abbrev pub LacksTable : ℕ → Schema → Type 0
-LacksTable own s = LacksFirst s ⊎ (((2 ≤ own) × LacksSides s) ⊎ ((3 ≤ own) × LacksSums s))
+LacksTable own s = LacksVersion1 s ⊎ (((2 ≤ own) × LacksVersion2 s) ⊎ ((3 ≤ own) × LacksVersion3 s))
 
 -- ---- the file has all of these tables with their columns
 
@@ -75,20 +75,20 @@ abbrev pub HasOthers : Schema → Type 0
 HasOthers s = HasMeaning s counts_text × (HasMeaning s tokens_text × HasMeaning s kept_text)
 
 -- all tables of the first version beside the shop's own
-abbrev pub HasFirst : Schema → Type 0
-HasFirst s = HasCatalogue s × (HasSales s × (HasDoors s × HasOthers s))
+abbrev pub HasVersion1 : Schema → Type 0
+HasVersion1 s = HasCatalogue s × (HasSales s × (HasDoors s × HasOthers s))
 
 -- all tables that the second version brought
-abbrev pub HasSides : Schema → Type 0
-HasSides s = HasMeaning s releases_text × HasMeaning s exits_text
+abbrev pub HasVersion2 : Schema → Type 0
+HasVersion2 s = HasMeaning s releases_text × HasMeaning s exits_text
 
 -- all tables that the third version brought
-abbrev pub HasSums : Schema → Type 0
-HasSums s = HasMeaning s budgets_text × (HasMeaning s spents_text × HasMeaning s discounts_text)
+abbrev pub HasVersion3 : Schema → Type 0
+HasVersion3 s = HasMeaning s budgets_text × (HasMeaning s spents_text × HasMeaning s discounts_text)
 
 -- all tables that this version has, beside the shop's own
 abbrev pub HasTables : ℕ → Schema → Type 0
-HasTables own s = HasFirst s × ((2 ≤ own → HasSides s) × (3 ≤ own → HasSums s))
+HasTables own s = HasVersion1 s × ((2 ≤ own → HasVersion2 s) × (3 ≤ own → HasVersion3 s))
 
 -- ---- a row of one of these tables is that of no value within its limits
 
@@ -113,20 +113,20 @@ abbrev pub AreDamagedOthers : Trees → Type 0
 AreDamagedOthers db = IsDamaged count_row (λ w. Unit {0}) (rows_at db 21) ⊎ (IsDamaged token_row IsFitToken (rows_at db 22) ⊎ IsDamaged kept_row IsFitKept (rows_at db 24))
 
 -- a table of the first version, beside the shop's own
-abbrev pub HasFirstDamage : Trees → Type 0
-HasFirstDamage db = IsDamagedCatalogue db ⊎ (AreDamagedSales db ⊎ (AreDamagedDoors db ⊎ AreDamagedOthers db))
+abbrev pub HasVersion1Damage : Trees → Type 0
+HasVersion1Damage db = IsDamagedCatalogue db ⊎ (AreDamagedSales db ⊎ (AreDamagedDoors db ⊎ AreDamagedOthers db))
 
 -- a table of the second version
-abbrev pub AreDamagedSides : Trees → Type 0
-AreDamagedSides db = IsDamaged release_row (λ w. Unit {0}) (rows_at db 27) ⊎ IsDamaged exit_row (λ w. Unit {0}) (rows_at db 28)
+abbrev pub AreVersion2Damaged : Trees → Type 0
+AreVersion2Damaged db = IsDamaged release_row (λ w. Unit {0}) (rows_at db 27) ⊎ IsDamaged exit_row (λ w. Unit {0}) (rows_at db 28)
 
 -- a table of the third version: a row of budgets or of discounts is of no value within its limits, or one of what is spent is of no numbers
-abbrev pub AreDamagedSums : Trees → Type 0
-AreDamagedSums db = IsDamaged budget_row IsFitBudget (rows_at db 29) ⊎ (IsDamaged spent_row (λ w. Unit {0}) (rows_at db 30) ⊎ IsDamaged discount_row IsFitDiscount (rows_at db 31))
+abbrev pub AreVersion3Damaged : Trees → Type 0
+AreVersion3Damaged db = IsDamaged budget_row IsFitBudget (rows_at db 29) ⊎ (IsDamaged spent_row (λ w. Unit {0}) (rows_at db 30) ⊎ IsDamaged discount_row IsFitDiscount (rows_at db 31))
 
 -- a table that this version has, beside the shop's own
 abbrev pub HasDamage : ℕ → Trees → Type 0
-HasDamage own db = HasFirstDamage db ⊎ (((2 ≤ own) × AreDamagedSides db) ⊎ ((3 ≤ own) × AreDamagedSums db))
+HasDamage own db = HasVersion1Damage db ⊎ (((2 ≤ own) × AreVersion2Damaged db) ⊎ ((3 ≤ own) × AreVersion3Damaged db))
 
 -- ---- all values are within their limits; the tables that aren't named have none
 

@@ -47,41 +47,41 @@ pub record HoldsOthers (db : Trees) (rows : OtherRows) : Type 0 where
   pub kept : IsPermutation (map kept_row rows.kept.items) (rows_at db 24)
 
 -- the rows of the tables of the first version
-pub record HoldsFirst (db : Trees) (rows : TableRows) : Type 0 where
+pub record HoldsVersion1 (db : Trees) (rows : TableRows) : Type 0 where
   pub catalogue : HoldsCatalogue db rows.catalogue
   pub sales : HoldsSales db rows.sales
   pub doors : HoldsDoors db rows.doors
   pub others : HoldsOthers db rows.others
 
 -- the rows of the tables that the second version brought
-pub record HoldsSides (db : Trees) (released : List ReleaseRow) (exited : List ExitRow) : Type 0 where
+pub record HoldsVersion2 (db : Trees) (released : List ReleaseRow) (exited : List ExitRow) : Type 0 where
   pub releases : IsPermutation (map release_row released) (rows_at db 27)
   pub exits : IsPermutation (map exit_row exited) (rows_at db 28)
 
 -- the rows of the tables that the third version brought
-pub record HoldsSums (db : Trees) (budgeted : List BudgetRow) (spent : List SpentRow) (discounted : List DiscountRow) : Type 0 where
+pub record HoldsVersion3 (db : Trees) (budgeted : List BudgetRow) (spent : List SpentRow) (discounted : List DiscountRow) : Type 0 where
   pub budgets : IsPermutation (map budget_row budgeted) (rows_at db 29)
   pub spents : IsPermutation (map spent_row spent) (rows_at db 30)
   pub discounts : IsPermutation (map discount_row discounted) (rows_at db 31)
 
 -- the tables of the second version have no rows
-pub record HasNoSides (rows : TableRows) : Type 0 where
+pub record HasNoVersion2 (rows : TableRows) : Type 0 where
   pub releases : rows.catalogue.releases.items ≡ []
   pub exits : rows.others.exits.items ≡ []
 
 -- the tables of the third version have no rows
-pub record HasNoSums (rows : TableRows) : Type 0 where
+pub record HasNoVersion3 (rows : TableRows) : Type 0 where
   pub budgets : rows.sales.budgets.items ≡ []
   pub spents : rows.others.spents.items ≡ []
   pub discounts : rows.sales.discounts.items ≡ []
 
 -- the rows of all tables of this version, beside the shop's own; the tables that it hasn't have none
 pub record HoldsRows (own : ℕ) (db : Trees) (rows : TableRows) : Type 0 where
-  pub first : HoldsFirst db rows
-  pub sides : 2 ≤ own → HoldsSides db rows.catalogue.releases.items rows.others.exits.items
-  pub sums : 3 ≤ own → HoldsSums db rows.sales.budgets.items rows.others.spents.items rows.sales.discounts.items
-  pub no_sides : own ≤ 1 → HasNoSides rows
-  pub no_sums : own ≤ 2 → HasNoSums rows
+  pub first : HoldsVersion1 db rows
+  pub version2 : 2 ≤ own → HoldsVersion2 db rows.catalogue.releases.items rows.others.exits.items
+  pub version3 : 3 ≤ own → HoldsVersion3 db rows.sales.budgets.items rows.others.spents.items rows.sales.discounts.items
+  pub no_version2 : own ≤ 1 → HasNoVersion2 rows
+  pub no_version3 : own ≤ 2 → HasNoVersion3 rows
 
 -- what was read, as what tables hold
 abbrev pub tables_of : FileTables → Tables

@@ -16,7 +16,7 @@ use Rattle.file_reads.specs.Since.{IsSince}
 use Rattle.file_reads.specs.Texts.{shop_text}
 use Rattle.file_scan.specs.Rests.{IsOpenAt, OnlyReads, WhereShown}
 use Rattle.file_scan.specs.Stopped.{IsStopped, WhereStopped}
-use Rattle.file_scan.specs.Read.{HoldsFirst, HoldsSides, HoldsSums}
+use Rattle.file_scan.specs.Read.{HoldsVersion1, HoldsVersion2, HoldsVersion3}
 use Rattle.file_scan.specs.Causes.{rows_at, ShowsBy, HasNoOtherVersion, HasTables, HasDamage}
 
 -- this holds of what an open connection showed, if until now the disk returned what was written
@@ -106,11 +106,11 @@ Either first second it = first it ⊎ second it
 
 -- the trees show the rows of the tables of the first two versions
 abbrev pub HoldsTwo : Trees → TableRows → Type 0
-HoldsTwo trees rows = HoldsFirst trees rows × HoldsSides trees rows.catalogue.releases.items rows.others.exits.items
+HoldsTwo trees rows = HoldsVersion1 trees rows × HoldsVersion2 trees rows.catalogue.releases.items rows.others.exits.items
 
 -- they show those of all three
 abbrev pub HoldsThree : Trees → TableRows → Type 0
-HoldsThree trees rows = HoldsFirst trees rows × (HoldsSides trees rows.catalogue.releases.items rows.others.exits.items × HoldsSums trees rows.sales.budgets.items rows.others.spents.items rows.sales.discounts.items)
+HoldsThree trees rows = HoldsVersion1 trees rows × (HoldsVersion2 trees rows.catalogue.releases.items rows.others.exits.items × HoldsVersion3 trees rows.sales.budgets.items rows.others.spents.items rows.sales.discounts.items)
 
 -- ---- the table `shop`
 

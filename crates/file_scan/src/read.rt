@@ -3,9 +3,9 @@
 ghost use Rattle.std.specs.Prelude.{◌≡◌, ◌≤◌, ⊤, [], false, All, IfOk};
 ghost use Rattle.sqlite_trees.specs.Tree.{Trees};
 ghost use Rattle.file_rows.specs.Fit.{IsFitBudget, IsFitDiscount};
-ghost use Rattle.file_scan.specs.Causes.{HasCatalogue, LacksCatalogue, IsDamagedCatalogue, HasSales, LacksSales, AreDamagedSales, HasDoors, LacksDoors, AreDamagedDoors, HasOthers, LacksOthers, AreDamagedOthers, HasFirst, LacksFirst, HasFirstDamage, HasSides, LacksSides, AreDamagedSides, HasSums, LacksSums, AreDamagedSums, HasTables, LacksTable, HasDamage};
+ghost use Rattle.file_scan.specs.Causes.{HasCatalogue, LacksCatalogue, IsDamagedCatalogue, HasSales, LacksSales, AreDamagedSales, HasDoors, LacksDoors, AreDamagedDoors, HasOthers, LacksOthers, AreDamagedOthers, HasVersion1, LacksVersion1, HasVersion1Damage, HasVersion2, LacksVersion2, AreVersion2Damaged, HasVersion3, LacksVersion3, AreVersion3Damaged, HasTables, LacksTable, HasDamage};
 ghost use Rattle.file_scan.specs.Fits.{IsFitCatalogue, AreFitSales, AreFitDoors, AreFitOthers, AreFitTables};
-ghost use Rattle.file_scan.specs.Read.{HoldsCatalogue, HoldsSales, HoldsDoors, HoldsOthers, HoldsFirst, HoldsSides, HoldsSums, HoldsRows, HasNoSides, HasNoSums};
+ghost use Rattle.file_scan.specs.Read.{HoldsCatalogue, HoldsSales, HoldsDoors, HoldsOthers, HoldsVersion1, HoldsVersion2, HoldsVersion3, HoldsRows, HasNoVersion2, HasNoVersion3};
 ghost use Rattle.file_scan.specs.Reading.{ReadsTables, Both, Either, HoldsTwo, HoldsThree};
 
 use crate::progress::Progress;
@@ -147,17 +147,17 @@ impl Whole for OtherRows {
 
 // The tables of the first version; those of a later one have no rows.
 impl Whole for TableRows {
-    ghost is_in = { HoldsFirst };
+    ghost is_in = { HoldsVersion1 };
 
     ghost fits = { AreFitTables };
 
     ghost since = { 1 };
 
-    ghost stands = { HasFirst };
+    ghost stands = { HasVersion1 };
 
-    ghost lacks = { LacksFirst };
+    ghost lacks = { LacksVersion1 };
 
-    ghost is_damaged = { HasFirstDamage };
+    ghost is_damaged = { HasVersion1Damage };
 
     fn read<S: Alter, P: Progress>(
         alloc: Global,
@@ -178,43 +178,43 @@ impl Whole for TableRows {
 
 // The rows of the tables of the second version: the quotas that release places, and how many tickets of each are out.
 #[derive(Drop)]
-struct SideRows {
+struct Version2Rows {
     releases: Vec<ReleaseRow>,
     exits: Vec<ExitRow>,
 }
 
-impl SideRows {
-    fn none(alloc: Global) -> SideRows
+impl Version2Rows {
+    fn none(alloc: Global) -> Version2Rows
         ensures releases { result.releases.items ≡ [] }
         ensures exits { result.exits.items ≡ [] }
     {
-        SideRows {
+        Version2Rows {
             releases: Vec::new(alloc),
             exits: Vec::new(alloc),
         }
     }
 }
 
-impl Whole for SideRows {
-    ghost is_in = { λ db rows. HoldsSides db rows.releases.items rows.exits.items };
+impl Whole for Version2Rows {
+    ghost is_in = { λ db rows. HoldsVersion2 db rows.releases.items rows.exits.items };
 
     ghost fits = { λ rows. ⊤ };
 
     ghost since = { 2 };
 
-    ghost stands = { HasSides };
+    ghost stands = { HasVersion2 };
 
-    ghost lacks = { LacksSides };
+    ghost lacks = { LacksVersion2 };
 
-    ghost is_damaged = { AreDamagedSides };
+    ghost is_damaged = { AreVersion2Damaged };
 
     fn read<S: Alter, P: Progress>(
         alloc: Global,
         conn: &mut Connection<S>,
         progress: &mut P,
-    ) -> Result<SideRows, RowError> {
+    ) -> Result<Version2Rows, RowError> {
         match Whole::read(alloc, conn, progress) {
-            Ok((releases, exits)) => Ok(SideRows { releases, exits }),
+            Ok((releases, exits)) => Ok(Version2Rows { releases, exits }),
             Err(error) => Err(error),
         }
     }
@@ -222,19 +222,19 @@ impl Whole for SideRows {
 
 // The rows of the tables of the third version, which are sums of money: budgets, what is spent of vouchers, discounts.
 #[derive(Drop)]
-struct SumRows {
+struct Version3Rows {
     budgets: Vec<BudgetRow>,
     spents: Vec<SpentRow>,
     discounts: Vec<DiscountRow>,
 }
 
-impl SumRows {
-    fn none(alloc: Global) -> SumRows
+impl Version3Rows {
+    fn none(alloc: Global) -> Version3Rows
         ensures budgets { result.budgets.items ≡ [] }
         ensures spents { result.spents.items ≡ [] }
         ensures discounts { result.discounts.items ≡ [] }
     {
-        SumRows {
+        Version3Rows {
             budgets: Vec::new(alloc),
             spents: Vec::new(alloc),
             discounts: Vec::new(alloc),
@@ -242,8 +242,8 @@ impl SumRows {
     }
 }
 
-impl Whole for SumRows {
-    ghost is_in = { λ db rows. HoldsSums db rows.budgets.items rows.spents.items
+impl Whole for Version3Rows {
+    ghost is_in = { λ db rows. HoldsVersion3 db rows.budgets.items rows.spents.items
         rows.discounts.items };
 
     ghost fits = { λ rows. All IsFitBudget rows.budgets.items
@@ -251,19 +251,19 @@ impl Whole for SumRows {
 
     ghost since = { 3 };
 
-    ghost stands = { HasSums };
+    ghost stands = { HasVersion3 };
 
-    ghost lacks = { LacksSums };
+    ghost lacks = { LacksVersion3 };
 
-    ghost is_damaged = { AreDamagedSums };
+    ghost is_damaged = { AreVersion3Damaged };
 
     fn read<S: Alter, P: Progress>(
         alloc: Global,
         conn: &mut Connection<S>,
         progress: &mut P,
-    ) -> Result<SumRows, RowError> {
+    ) -> Result<Version3Rows, RowError> {
         match Whole::read(alloc, conn, progress) {
-            Ok((budgets, (spents, discounts))) => Ok(SumRows {
+            Ok((budgets, (spents, discounts))) => Ok(Version3Rows {
                 budgets,
                 spents,
                 discounts,
@@ -274,22 +274,22 @@ impl Whole for SumRows {
 }
 
 // The rows of the tables of the first version, with those of the later ones.
-fn with_later(tables: TableRows, sides: SideRows, sums: SumRows) -> TableRows
-    ensures held { (db : Trees) → HoldsFirst db tables → HoldsFirst db result }
-    ensures limits { AreFitTables tables → All IsFitBudget sums.budgets.items
-        → All IsFitDiscount sums.discounts.items → AreFitTables result }
-    ensures releases { result.catalogue.releases ≡ sides.releases }
-    ensures exits { result.others.exits ≡ sides.exits }
-    ensures budgets { result.sales.budgets ≡ sums.budgets }
-    ensures spents { result.others.spents ≡ sums.spents }
-    ensures discounts { result.sales.discounts ≡ sums.discounts }
+fn with_later(tables: TableRows, version2: Version2Rows, version3: Version3Rows) -> TableRows
+    ensures held { (db : Trees) → HoldsVersion1 db tables → HoldsVersion1 db result }
+    ensures limits { AreFitTables tables → All IsFitBudget version3.budgets.items
+        → All IsFitDiscount version3.discounts.items → AreFitTables result }
+    ensures releases { result.catalogue.releases ≡ version2.releases }
+    ensures exits { result.others.exits ≡ version2.exits }
+    ensures budgets { result.sales.budgets ≡ version3.budgets }
+    ensures spents { result.others.spents ≡ version3.spents }
+    ensures discounts { result.sales.discounts ≡ version3.discounts }
 {
     let mut tables = tables;
-    tables.catalogue.releases = sides.releases;
-    tables.others.exits = sides.exits;
-    tables.sales.budgets = sums.budgets;
-    tables.others.spents = sums.spents;
-    tables.sales.discounts = sums.discounts;
+    tables.catalogue.releases = version2.releases;
+    tables.others.exits = version2.exits;
+    tables.sales.budgets = version3.budgets;
+    tables.others.spents = version3.spents;
+    tables.sales.discounts = version3.discounts;
     tables
 }
 
@@ -300,12 +300,12 @@ fn read_first<S: Alter, P: Progress>(
     progress: &mut P,
 ) -> Result<TableRows, RowError>
     requires { conn.old.in_transaction ≡ false }
-    ensures reads { ReadsTables 1 HoldsFirst AreFitTables HasFirst LacksFirst HasFirstDamage
+    ensures reads { ReadsTables 1 HoldsVersion1 AreFitTables HasVersion1 LacksVersion1 HasVersion1Damage
         S.Store conn.old conn.new result }
-    ensures none { IfOk result (λ rows. HasNoSides rows × HasNoSums rows) }
+    ensures none { IfOk result (λ rows. HasNoVersion2 rows × HasNoVersion3 rows) }
 {
     match TableRows::read(alloc, conn, progress) {
-        Ok(tables) => Ok(with_later(tables, SideRows::none(alloc), SumRows::none(alloc))),
+        Ok(tables) => Ok(with_later(tables, Version2Rows::none(alloc), Version3Rows::none(alloc))),
         Err(error) => Err(error),
     }
 }
@@ -317,14 +317,14 @@ fn read_second<S: Alter, P: Progress>(
     progress: &mut P,
 ) -> Result<TableRows, RowError>
     requires { conn.old.in_transaction ≡ false }
-    ensures reads { ReadsTables 2 HoldsTwo AreFitTables (Both HasFirst HasSides)
-        (Either LacksFirst LacksSides) (Either HasFirstDamage AreDamagedSides)
+    ensures reads { ReadsTables 2 HoldsTwo AreFitTables (Both HasVersion1 HasVersion2)
+        (Either LacksVersion1 LacksVersion2) (Either HasVersion1Damage AreVersion2Damaged)
         S.Store conn.old conn.new result }
-    ensures none { IfOk result HasNoSums }
+    ensures none { IfOk result HasNoVersion3 }
 {
-    let read: Result<(TableRows, SideRows), RowError> = read_both(alloc, conn, progress);
+    let read: Result<(TableRows, Version2Rows), RowError> = read_both(alloc, conn, progress);
     match read {
-        Ok((tables, sides)) => Ok(with_later(tables, sides, SumRows::none(alloc))),
+        Ok((tables, version2)) => Ok(with_later(tables, version2, Version3Rows::none(alloc))),
         Err(error) => Err(error),
     }
 }
@@ -336,14 +336,14 @@ fn read_third<S: Alter, P: Progress>(
     progress: &mut P,
 ) -> Result<TableRows, RowError>
     requires { conn.old.in_transaction ≡ false }
-    ensures { ReadsTables 3 HoldsThree AreFitTables (Both HasFirst (Both HasSides HasSums))
-        (Either LacksFirst (Either LacksSides LacksSums))
-        (Either HasFirstDamage (Either AreDamagedSides AreDamagedSums))
+    ensures { ReadsTables 3 HoldsThree AreFitTables (Both HasVersion1 (Both HasVersion2 HasVersion3))
+        (Either LacksVersion1 (Either LacksVersion2 LacksVersion3))
+        (Either HasVersion1Damage (Either AreVersion2Damaged AreVersion3Damaged))
         S.Store conn.old conn.new result }
 {
-    let read: Result<(TableRows, (SideRows, SumRows)), RowError> = read_both(alloc, conn, progress);
+    let read: Result<(TableRows, (Version2Rows, Version3Rows)), RowError> = read_both(alloc, conn, progress);
     match read {
-        Ok((tables, (sides, sums))) => Ok(with_later(tables, sides, sums)),
+        Ok((tables, (version2, version3))) => Ok(with_later(tables, version2, version3)),
         Err(error) => Err(error),
     }
 }
