@@ -2,7 +2,7 @@
 use Rattle.model_export.specs.declared.sink.SinkFault.TheVariants as sinks
 use Rattle.web_cli.specs.declared.fault.RunFault.{RunFault}
 use Rattle.web_cli.specs.declared.fault.RunFault.TheVariants as faults
-use Rattle.model_rules.specs.declared.rule.Rule.TheVariants as rules
+use Rattle.model_damage.specs.declared.rule.Rule.TheVariants as rules
 use Rattle.file_schema.specs.declared.error.RowError.TheVariants as rows
 use Rattle.app_export.specs.declared.positions.WalkError.{WalkError}
 use Rattle.app_export.specs.declared.positions.WalkError.TheVariants.{Sink, Rows}

@@ -13,7 +13,7 @@ use base_devices::Drain;
 use file_scan::Progress;
 use file_schema::RowError;
 use model_export::SinkFault;
-use model_rules::Rule;
+use model_damage::Rule;
 use sqlite::{Alter, Connection};
 use std::alloc::Global;
 use web_cli::RunFault;

@@ -3,9 +3,9 @@ use Rattle.std.specs.Prelude.{ℕ, List}
 use Rattle.model_rows.specs.declared.count_rows.QuotaCount.{QuotaCount}
 use Rattle.model_rows.specs.declared.count_rows.VoucherCount.{VoucherCount}
 use Rattle.model_rows.specs.Lists.{State}
-use Rattle.model_rules.specs.declared.rule.Rule.{Rule}
-use Rattle.model_rules.specs.declared.rule.Rule.TheVariants.{Shop, Limits, Ids}
-use Rattle.model_rules.specs.Rules.{File, Keeps, IsLeastBroken}
+use Rattle.model_damage.specs.declared.rule.Rule.{Rule}
+use Rattle.model_damage.specs.declared.rule.Rule.TheVariants.{Shop, Limits, Ids}
+use Rattle.model_damage.specs.Rules.{File, Keeps, IsLeastBroken}
 
 -- the rules that are tested before there is a book
 pub record KeepsFirst (file : File) : Type 0 where

@@ -6,7 +6,7 @@ ghost use Rattle.model_rows.specs.Named.{AreUnlike};
 ghost use Rattle.model_invariant.specs.OwnCodes.{code_ending, has_own_code, HaveCodes};
 ghost use Rattle.model_invariant.specs.Secrets.{has_own_secret, AllHaveOwnSecrets};
 ghost use Rattle.file_check.specs.Tested.{has_new_code};
-ghost use Rattle.model_rules.specs.Tests.{TellsWhether};
+ghost use Rattle.model_damage.specs.Tests.{TellsWhether};
 
 use base_values::Text;
 use book_usage::Book;

@@ -3,7 +3,7 @@
 ghost use Rattle.std.specs.Prelude.{◌≡◌, ◌↔◌, IsTrue, true};
 ghost use Rattle.std.specs.List.{AllByRecursion};
 ghost use Rattle.model_invariant.specs.Checkins.{has_item, HasItems, IsCheckedIn, IsDoorOf};
-ghost use Rattle.model_rules.specs.Tests.{TellsWhether};
+ghost use Rattle.model_damage.specs.Tests.{TellsWhether};
 
 use crate::are_once;
 use base_tables::are_rising;

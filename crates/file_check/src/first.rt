@@ -1,15 +1,15 @@
 //! The least rule that rows break, of those that are tested before a book is built of them.
 
 ghost use Rattle.std.specs.Prelude.{◌≤◌, IfNone, IfSome};
-ghost use Rattle.model_rules.specs.Numbers.{number};
-ghost use Rattle.model_rules.specs.Rules.{IsLeastBroken};
-ghost use Rattle.model_rules.specs.Told.{file_of};
+ghost use Rattle.model_damage.specs.Numbers.{number};
+ghost use Rattle.model_damage.specs.Rules.{IsLeastBroken};
+ghost use Rattle.model_damage.specs.Told.{file_of};
 ghost use Rattle.file_check.specs.Last.{KeepsFirst};
 
 use crate::head::keeps_head;
 use crate::ids::keeps_ids;
 use crate::limits::keeps_limits;
-use model_rules::{FileRows, Rule};
+use model_damage::{FileRows, Rule};
 
 /// The least rule that is broken of the first three: 1 the shop's row, 2 limits, 3 ids. None where the rows keep these three.
 pub fn first_broken(rows: &FileRows) -> Option<Rule>

@@ -3,10 +3,10 @@
 ghost use Rattle.std.specs.Prelude.{◌↔◌, ◌≤◌, ◌<◌, IsTrue};
 ghost use Rattle.std.specs.List.{AllByRecursion};
 ghost use Rattle.model_invariant.specs.Ids.{AreNumbered, AllNumbered};
-ghost use Rattle.model_rules.specs.Told.{lists_of};
+ghost use Rattle.model_damage.specs.Told.{lists_of};
 
 use base_tables::{Row, rises};
-use model_rules::FileRows;
+use model_damage::FileRows;
 
 /// Whether each id is at least 1.
 pub(crate) fn are_from_one<T: Row>(rows: &[T]) -> bool

@@ -10,7 +10,7 @@ use crate::names::keeps_names;
 use crate::orders::keeps_positions;
 use book_usage::Book;
 use model_rows::{QuotaCount, VoucherCount};
-use model_rules::Rule;
+use model_damage::Rule;
 use std::alloc::{AllocError, Global};
 
 /// The least rule that a file breaks of which the first three are kept: 4 names, 5 positions, 6 headroom, 7 counters, 8 budgets. The

@@ -4,15 +4,15 @@ ghost use Rattle.std.specs.Prelude.{◌≡◌, ◌↔◌, IsTrue, IfSome};
 ghost use Rattle.std.specs.List.{AllByRecursion};
 ghost use Rattle.model_invariant.specs.Few.{AllFew};
 ghost use Rattle.model_invariant.specs.Limits.{IsValue, IsLimitedItem, IsLimitedVariation, IsLimitedQuota, IsLimitedVoucher, IsLimitedCart, IsLimitedOrder, IsLimitedPosition, IsLimitedWaiting, IsLimitedCheckinList, IsLimitedCheckin, AllLimited};
-ghost use Rattle.model_rules.specs.Rules.{AllFromOne, IsWithin};
-ghost use Rattle.model_rules.specs.Told.{lists_of};
+ghost use Rattle.model_damage.specs.Rules.{AllFromOne, IsWithin};
+ghost use Rattle.model_damage.specs.Told.{lists_of};
 
 use crate::ids::are_from_one;
 use base_values::codes::LAST_ORDER;
 use base_values::{Cents, Known, PriceMode};
 use model_catalogue::{Item, MOST_ROWS, Quota, Variation};
 use model_rows::{CartPos, Checkin, CheckinList, Order, OrderPos, Voucher, Waiting};
-use model_rules::FileRows;
+use model_damage::FileRows;
 
 /// A row whose values have limits.
 trait Limited {

@@ -1,7 +1,7 @@
 //! The tests of what quotas list.
 
 ghost use Rattle.model_invariant.specs.Members.{HasMembers, AllHaveMembers};
-ghost use Rattle.model_rules.specs.Tests.{TellsWhether};
+ghost use Rattle.model_damage.specs.Tests.{TellsWhether};
 
 use base_tables::are_rising;
 use book_usage::{Book, Catalogue};

@@ -1,9 +1,9 @@
 //! The test of what rows name, and of codes and secrets.
 
 ghost use Rattle.std.specs.Prelude.{◌↔◌, IsTrue};
-ghost use Rattle.model_rules.specs.Rules.{NamesWell};
+ghost use Rattle.model_damage.specs.Rules.{NamesWell};
 ghost use Rattle.file_check.specs.Tested.{SellsWell};
-ghost use Rattle.model_rules.specs.Tests.{TellsWhether};
+ghost use Rattle.model_damage.specs.Tests.{TellsWhether};
 
 use crate::door::is_door;
 use crate::have_codes;

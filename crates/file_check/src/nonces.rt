@@ -5,7 +5,7 @@ ghost use Rattle.std.specs.List.{AllByRecursion};
 ghost use Rattle.std.specs.Option.{option_copied};
 ghost use Rattle.model_invariant.specs.Checkins.{same_nonce, repeats, AreOnce};
 ghost use Rattle.file_check.specs.Tested.{is_new};
-ghost use Rattle.model_rules.specs.Tests.{TellsWhether};
+ghost use Rattle.model_damage.specs.Tests.{TellsWhether};
 
 use crate::keys::have_own_keys;
 use base_values::Text;

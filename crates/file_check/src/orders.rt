@@ -3,7 +3,7 @@
 ghost use Rattle.std.specs.Prelude.{◌↔◌, IsTrue};
 ghost use Rattle.model_rows.specs.Ordered.{AllOrdered};
 ghost use Rattle.model_invariant.specs.Positions.{AllHavePositions, AreOfOrders, AreWhole, of_order};
-ghost use Rattle.model_rules.specs.Tests.{TellsWhether};
+ghost use Rattle.model_damage.specs.Tests.{TellsWhether};
 
 use crate::all_have_own_secrets;
 use base_values::List;

@@ -4,10 +4,10 @@ use Rattle.sqlite.specs.Effect.{Database}
 use Rattle.file_schema.specs.Tables.{schema}
 use Rattle.file_meaning.specs.Rows.{OfficeRows}
 use Rattle.file_meaning.specs.Stands.{AreRowsOf}
-use Rattle.model_rules.specs.declared.rule.Rule.{Rule}
-use Rattle.model_rules.specs.declared.rule.Rule.TheVariants as rules
-use Rattle.model_rules.specs.Numbers.{number}
-use Rattle.model_rules.specs.Rules.{File, Keeps, IsLeastBroken}
+use Rattle.model_damage.specs.declared.rule.Rule.{Rule}
+use Rattle.model_damage.specs.declared.rule.Rule.TheVariants as rules
+use Rattle.model_damage.specs.Numbers.{number}
+use Rattle.model_damage.specs.Rules.{File, Keeps, IsLeastBroken}
 use Rattle.file_rows.specs.declared.rows.ShopRow.{ShopRow}
 use Rattle.file_rows.specs.declared.rows.Token.{Token}
 use Rattle.file_rows.specs.Tables.{Holds}

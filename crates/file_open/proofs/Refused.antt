@@ -15,7 +15,7 @@ use Rattle.file_meaning.specs.Free.{IsFree}
 use Rattle.file_meaning.specs.Rows.{head_of_redeemed, rows_of, redeemed_in}
 use Rattle.file_meaning.specs.Stands.{AreRowsOf, AreSameRows, Stand}
 use Rattle.file_meaning.proofs.Follow.{rows_along}
-use Rattle.model_rules.specs.Rules.{File, IsCounted}
+use Rattle.model_damage.specs.Rules.{File, IsCounted}
 use Rattle.file_scan.specs.declared.file.FileTables.{FileTables}
 use Rattle.file_rows.specs.declared.table_rows.TableRows.{TableRows}
 use Rattle.file_scan.specs.Read.{AreTableRows, IsFileOf}

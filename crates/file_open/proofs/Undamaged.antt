@@ -25,9 +25,9 @@ use Rattle.file_meaning.specs.Stands.{AreRowsOf, AreSameRows, Stand}
 use Rattle.file_meaning.proofs.Follow.{rows_along}
 use Rattle.file_meaning.proofs.Order.{same_order}
 use Rattle.file_meaning.proofs.Told.{order_of_parts}
-use Rattle.model_rules.specs.declared.rule.Rule.{Rule}
-use Rattle.model_rules.specs.Rules.{File, IsCounted, Keeps}
-use Rattle.model_rules.proofs.Sounds.{keeps_all}
+use Rattle.model_damage.specs.declared.rule.Rule.{Rule}
+use Rattle.model_damage.specs.Rules.{File, IsCounted, Keeps}
+use Rattle.model_damage.proofs.Sounds.{keeps_all}
 use Rattle.file_scan.specs.declared.file.FileTables.{FileTables}
 use Rattle.file_scan.specs.Read.{IsFileOf}
 use Rattle.file_scan.proofs.SameLemmas.{file_of}

@@ -15,8 +15,8 @@ use Rattle.file_reads.specs.Texts.{shop_text}
 use Rattle.file_reads.proofs.Causes.{lacks_none}
 use Rattle.file_reads.proofs.ShopLemmas as of_shop
 use Rattle.file_reads.proofs.SinceLemmas.{since_before}
-use Rattle.model_rules.specs.declared.rule.Rule.{Rule}
-use Rattle.model_rules.specs.declared.rule.Rule.TheVariants as rule
+use Rattle.model_damage.specs.declared.rule.Rule.{Rule}
+use Rattle.model_damage.specs.declared.rule.Rule.TheVariants as rule
 use Rattle.file_scan.specs.declared.error.OpenError.{OpenError}
 use Rattle.file_scan.specs.declared.error.OpenError.TheVariants.{Memory, NotAShop, Version, Damaged, Store}
 use Rattle.file_scan.specs.Causes.{IsCauseAs, IsOneShop, ShowsBy}

@@ -18,10 +18,10 @@ use Rattle.file_meaning.specs.Free.{IsFree}
 use Rattle.file_meaning.specs.Rows.{OfficeRows}
 use Rattle.file_meaning.specs.Stands.{AreRowsOf, Stand}
 use Rattle.file_meaning.specs.Typed.{AreBelowNext, IsTypedShop}
-use Rattle.model_rules.specs.declared.rule.Rule.{Rule}
-use Rattle.model_rules.specs.declared.rule.Rule.TheVariants as rules
-use Rattle.model_rules.specs.Numbers.{number}
-use Rattle.model_rules.specs.Rules.{File, Keeps}
+use Rattle.model_damage.specs.declared.rule.Rule.{Rule}
+use Rattle.model_damage.specs.declared.rule.Rule.TheVariants as rules
+use Rattle.model_damage.specs.Numbers.{number}
+use Rattle.model_damage.specs.Rules.{File, Keeps}
 use Rattle.file_scan.specs.declared.error.OpenError.{OpenError}
 use Rattle.file_scan.specs.declared.error.OpenError.TheVariants.{Memory, NotAShop, Version, Damaged, Store}
 use Rattle.file_scan.specs.declared.file.FileTables.{FileTables}

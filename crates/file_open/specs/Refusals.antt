@@ -5,7 +5,7 @@ use Rattle.sqlite.specs.Effect.{Database}
 use Rattle.file_schema.specs.Tables.{this_version}
 use Rattle.file_schema.specs.Versions.{schema_of_version}
 use Rattle.file_rows.specs.Tables.{HoldsAt}
-use Rattle.model_rules.specs.declared.rule.Rule.{Rule}
+use Rattle.model_damage.specs.declared.rule.Rule.{Rule}
 use Rattle.file_scan.specs.declared.error.OpenError.{OpenError}
 use Rattle.file_scan.specs.declared.error.OpenError.TheVariants.{Memory, NotAShop, Version, Damaged, Store}
 use Rattle.file_scan.specs.declared.file.FileTables.{FileTables}

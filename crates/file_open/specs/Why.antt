@@ -1,14 +1,14 @@
 -- Why rows that were all read are no box office: words for the functions that look.
 use Rattle.std.specs.Prelude.{◌≡◌, ◌⊎◌, ◌<◌, Bool, IsTrue}
-use Rattle.model_rules.specs.declared.rule.Rule.{Rule}
-use Rattle.model_rules.specs.Numbers.{number}
-use Rattle.model_rules.specs.Rules.{File, Keeps, IsLeastBroken}
+use Rattle.model_damage.specs.declared.rule.Rule.{Rule}
+use Rattle.model_damage.specs.Numbers.{number}
+use Rattle.model_damage.specs.Rules.{File, Keeps, IsLeastBroken}
 use Rattle.file_scan.specs.declared.error.OpenError.{OpenError}
 use Rattle.file_scan.specs.declared.error.OpenError.TheVariants.{Memory, NotAShop, Version, Damaged, Store}
 use Rattle.file_scan.specs.declared.file.FileTables.{FileTables}
 use Rattle.file_rebuild.specs.Arranged.{AreReadInOrder}
 use Rattle.file_open.specs.Opened.{RowsRise, IsLeastOf}
-use Rattle.model_rules.specs.declared.rule.Rule.TheVariants as rules
+use Rattle.model_damage.specs.declared.rule.Rule.TheVariants as rules
 
 -- why rows that were read are no office: 62 because of that rule, 63 because they don't rise by their numbers, and neither 60 nor 61
 abbrev pub IsWhy : FileTables → OpenError → Type 0

@@ -6,10 +6,10 @@ ghost use Rattle.model_invariant.specs.Sound.{IsSound};
 ghost use Rattle.file_rows.specs.Tables.{Tables};
 ghost use Rattle.file_meaning.specs.Free.{IsFree};
 ghost use Rattle.file_meaning.specs.Stands.{Stand};
-ghost use Rattle.model_rules.specs.declared.rule.Rule.{Rule};
-ghost use Rattle.model_rules.specs.declared.rule.Rule.TheVariants.{Counters, Budgets};
-ghost use Rattle.model_rules.specs.Rules.{Keeps};
-ghost use Rattle.model_rules.specs.Told.{state_of, file_of};
+ghost use Rattle.model_damage.specs.declared.rule.Rule.{Rule};
+ghost use Rattle.model_damage.specs.declared.rule.Rule.TheVariants.{Counters, Budgets};
+ghost use Rattle.model_damage.specs.Rules.{Keeps};
+ghost use Rattle.model_damage.specs.Told.{state_of, file_of};
 ghost use Rattle.file_check.specs.Last.{KeepsFirst};
 ghost use Rattle.file_scan.specs.Read.{IsFileOf};
 ghost use Rattle.file_meaning.specs.Typed.{AreBelowNext};
@@ -23,7 +23,7 @@ use file_check::last_broken;
 use file_rebuild::fill;
 use file_rows::ShopRow;
 use file_scan::{FileTables, OpenError};
-use model_rules::{FileRows, Rule};
+use model_damage::{FileRows, Rule};
 use std::alloc::Global;
 
 /// What a shop's file holds: the shop's row, whose shop it is, the number from which rows without an id of their own are numbered

@@ -9,7 +9,7 @@ ghost use Rattle.model_answers.specs.declared.kept.Kept.{Kept};
 ghost use Rattle.model_answers.specs.ShopView.{IsSame};
 ghost use Rattle.file_rows.specs.declared.rows.ShopRow.{ShopRow};
 ghost use Rattle.file_rows.specs.Tables.{Tables};
-ghost use Rattle.model_rules.specs.declared.rule.Rule.{Rule};
+ghost use Rattle.model_damage.specs.declared.rule.Rule.{Rule};
 ghost use Rattle.file_scan.specs.declared.error.OpenError.{OpenError};
 ghost use Rattle.file_scan.specs.declared.error.OpenError.TheVariants.{Version};
 ghost use Rattle.file_scan.specs.Rests.{IsAt};

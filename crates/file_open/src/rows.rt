@@ -8,8 +8,8 @@ ghost use Rattle.file_rows.specs.Tables.{Tables};
 ghost use Rattle.file_meaning.specs.Free.{IsFree};
 ghost use Rattle.file_meaning.specs.Rows.{OfficeRows};
 ghost use Rattle.file_meaning.specs.Stands.{AreRowsOf};
-ghost use Rattle.model_rules.specs.declared.rule.Rule.TheVariants.{Ids, Names};
-ghost use Rattle.model_rules.specs.Told.{file_of};
+ghost use Rattle.model_damage.specs.declared.rule.Rule.TheVariants.{Ids, Names};
+ghost use Rattle.model_damage.specs.Told.{file_of};
 ghost use Rattle.file_check.specs.Last.{KeepsFirst};
 ghost use Rattle.file_scan.specs.declared.file.FileTables.{FileTables};
 ghost use Rattle.file_scan.specs.Read.{AreTableRows};
@@ -24,7 +24,7 @@ use file_rebuild::{ArrangeError, Arranged, arrange};
 use file_rows::{ShopRow, TableRows, Token};
 use file_scan::OpenError;
 use file_scan::numbers::next_number;
-use model_rules::{FileRows, Rule};
+use model_damage::{FileRows, Rule};
 use std::alloc::Global;
 
 /// The number from which rows without an id of their own are numbered on, the least that is free. None where those that stand weren't shown in order.

@@ -28,7 +28,7 @@ use Rattle.file_rows.specs.declared.table_rows.CatalogueRows.{CatalogueRows}
 use Rattle.file_rows.specs.declared.table_rows.OtherRows.{OtherRows}
 use Rattle.file_rows.specs.declared.table_rows.SaleRows.{SaleRows}
 use Rattle.file_rows.specs.declared.table_rows.TableRows.{TableRows}
-use Rattle.model_rules.specs.Rules.{File}
+use Rattle.model_damage.specs.Rules.{File}
 use Rattle.file_meaning.specs.Links.{Link, all_links}
 use Rattle.file_meaning.specs.Rows.{OfficeRows, budget_in, budgets_of, discount_in, discounts_of, releases_of, voucher_of, position_of, usage_in}
 use Rattle.file_meaning.specs.Stands.{AreOrdered}

@@ -1,7 +1,7 @@
 //! The rows of a file, arranged as those of a box office.
 
 ghost use Rattle.std.specs.Prelude.{◌≡◌, ◌↔◌, IfOk, IfErr, OnOk, IsTrue};
-ghost use Rattle.model_rules.specs.Told.{file_of, lists_of};
+ghost use Rattle.model_damage.specs.Told.{file_of, lists_of};
 ghost use Rattle.file_meaning.specs.Stands.{AreRowsOf};
 ghost use Rattle.file_rebuild.specs.Arranged.{file_arranged, rows_in, told_by, ArePaired, AreReadInOrder, OthersRise};
 ghost use Rattle.file_rebuild.specs.declared.error.ArrangeError.TheVariants.{Order};
@@ -14,7 +14,7 @@ use crate::quotas::catalogue_in;
 use crate::sales::sales_in;
 use base_tables::rises;
 use file_rows::{ShopRow, TableRows};
-use model_rules::FileRows;
+use model_damage::FileRows;
 use std::alloc::Global;
 
 /// The rows of a file, with members, budgets and discounts beside the rows that they are of. They are whole where each link tells a member, each

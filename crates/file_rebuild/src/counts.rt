@@ -3,7 +3,7 @@
 ghost use Rattle.std.specs.Prelude.{◌≡◌, ◌↔◌, map, IfOk, IfErr, OnOk, IsTrue};
 ghost use Rattle.base_tables.specs.Tables.{AreInOrder};
 ghost use Rattle.file_meaning.specs.Rows.{usage_in};
-ghost use Rattle.model_rules.specs.Tests.{TellsWhether};
+ghost use Rattle.model_damage.specs.Tests.{TellsWhether};
 ghost use Rattle.file_rebuild.specs.Arranged.{beside, count_in, spending, usages_beside, uses_beside, AreExitsPaired, AreSpentsPaired, AreCountsPaired, CountsRise};
 ghost use Rattle.file_rebuild.specs.declared.error.ArrangeError.TheVariants.{Order};
 

@@ -3,7 +3,7 @@
 ghost use Rattle.std.specs.Prelude.{◌≡◌, ◌≤◌, IfOk, OnOk};
 ghost use Rattle.model_rows.specs.Lists.{no_rows};
 ghost use Rattle.model_invariant.specs.Ids.{AllNumbered};
-ghost use Rattle.model_rules.specs.Told.{lists_of, state_of};
+ghost use Rattle.model_damage.specs.Told.{lists_of, state_of};
 
 use crate::put::put_rows;
 use base_values::{Moment, Slug};
@@ -13,7 +13,7 @@ use model_rows::{
     CartPos, Checkin, CheckinList, NextIds, Order, OrderPos, QuotaCount, Voucher, VoucherCount,
     Waiting,
 };
-use model_rules::FileRows;
+use model_damage::FileRows;
 use std::alloc::{AllocError, Global};
 
 /// What a file tells beside the rows of its office: whose shop it is, and the counts of its quotas and vouchers.

@@ -44,7 +44,7 @@ use Rattle.file_reads.proofs.DiscountsLemmas as of_discounts
 use Rattle.file_reads.proofs.SelectLemmas.{quota_items_selected, vouchers_selected, order_positions_selected}
 use Rattle.file_scan.specs.declared.error.OpenError.{OpenError}
 use Rattle.file_scan.specs.declared.error.OpenError.TheVariants.{Memory, NotAShop, Version, Damaged, Store}
-use Rattle.model_rules.specs.declared.rule.Rule.TheVariants as rule
+use Rattle.model_damage.specs.declared.rule.Rule.TheVariants as rule
 use Rattle.file_scan.specs.declared.file.FileTables.{FileTables}
 use Rattle.file_rows.specs.declared.table_rows.TableRows.{TableRows}
 use Rattle.file_scan.specs.Read.{HoldsVersion1, HoldsVersion2, HoldsVersion3, HoldsRows, tables_of}

@@ -18,7 +18,7 @@ use Rattle.file_rows.specs.Fit.{IsFitShop, IsFitItem, IsFitVariation, IsFitQuota
 use Rattle.file_reads.specs.Damage.{HasMeaning, HasNoMeaning, IsDamaged}
 use Rattle.file_reads.specs.Since.{IsSince}
 use Rattle.file_reads.specs.Texts.{shop_text, items_text, variations_text, quotas_text, quota_items_text, quota_variations_text, vouchers_text, carts_text, orders_text, positions_text, waiting_text, checkin_lists_text, list_items_text, checkins_text, counts_text, tokens_text, kept_text, releases_text, exits_text, budgets_text, spents_text, discounts_text}
-use Rattle.model_rules.specs.declared.rule.Rule.TheVariants as rule
+use Rattle.model_damage.specs.declared.rule.Rule.TheVariants as rule
 use Rattle.file_scan.specs.declared.error.OpenError.{OpenError}
 use Rattle.file_scan.specs.declared.error.OpenError.TheVariants.{Memory, NotAShop, Version, Damaged, Store}
 

@@ -1,7 +1,7 @@
 //! Why a file isn't opened.
 
 use file_schema::RowError;
-use model_rules::Rule;
+use model_damage::Rule;
 use std::alloc::AllocError;
 
 /// Why a file isn't opened.

@@ -22,7 +22,7 @@ use crate::progress::Progress;
 use crate::read::read_tables;
 use file_rows::{ShopRow, TableRows};
 use file_schema::{RowError, VERSION};
-use model_rules::Rule;
+use model_damage::Rule;
 use sqlite::{Alter, Connection, Row};
 use std::alloc::Global;
 

@@ -20,7 +20,7 @@ use crate::ids::has_next_ids;
 use file_reads::Loaded;
 use file_rows::ShopRow;
 use file_schema::RowError;
-use model_rules::Rule;
+use model_damage::Rule;
 use sqlite::{Alter, Connection, Row};
 use std::alloc::Global;
 

@@ -1,13 +1,13 @@
 //! What is done with each command.
 
 ghost use Rattle.std.specs.Prelude.{IfOk};
-ghost use Rattle.office_service.specs.Machine.{CanBegin, IsStep};
+ghost use Rattle.office_other.specs.Machine.{CanBegin, IsStep};
 
 use base_values::{Draw, Moment};
 use book_usage::Book;
 use model_commands::{Command, Reply};
 use office_sales::sales;
-use office_service::{Drafted, catalogue, doors, waiting};
+use office_other::{Drafted, catalogue, doors, waiting};
 use std::alloc::{AllocError, Global};
 
 /// What a command is answered over a book that is sound, and the changes that it makes.

@@ -1,7 +1,7 @@
 //! Queries of check-in lists, and of the positions that belong to them.
 
 ghost use Rattle.std.specs.Prelude.{◌≡◌, IfOk, map, take, drop};
-ghost use Rattle.office_service.specs.Machine.{belonging, list_of, one_of, show_ticket, status_told, ticket_if};
+ghost use Rattle.office_other.specs.Machine.{belonging, list_of, one_of, show_ticket, status_told, ticket_if};
 ghost use Rattle.model_rows.specs.Lists.{checkin_list_at};
 ghost use Rattle.office_commands.specs.Told.{IfOkIs};
 

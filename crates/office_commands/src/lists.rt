@@ -1,7 +1,7 @@
 //! Pages of lists.
 
 ghost use Rattle.std.specs.Prelude.{◌≡◌, map};
-ghost use Rattle.office_service.specs.Machine.{list_of};
+ghost use Rattle.office_other.specs.Machine.{list_of};
 ghost use Rattle.model_commands.specs.Pages.{page_listed};
 ghost use Rattle.office_commands.specs.Told.{IfOkIs};
 

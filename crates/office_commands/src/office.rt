@@ -5,7 +5,7 @@ ghost use Rattle.model_rows.specs.Change.{changes_applied};
 ghost use Rattle.model_rows.specs.CountRows.{counts_after};
 ghost use Rattle.model_rows.specs.Weight.{weight};
 ghost use Rattle.model_invariant.specs.Sound.{IsSound};
-ghost use Rattle.office_service.specs.Machine.{IsStep, answer};
+ghost use Rattle.office_other.specs.Machine.{IsStep, answer};
 ghost use Rattle.office_commands.specs.Told.{IfOkIs};
 
 use crate::deciding::decide_over;
@@ -13,7 +13,7 @@ use base_values::{Draw, Known, Moment, Slug};
 use book_usage::{Book, Dues};
 use model_commands::{Command, Query, Reply};
 use model_rows::{Changes, CountRows};
-use office_service::Drafted;
+use office_other::Drafted;
 use std::alloc::{AllocError, Global};
 use std::marker::Model;
 

@@ -2,7 +2,7 @@
 
 ghost use Rattle.std.specs.Prelude.{◌≡◌, ◌≤◌};
 ghost use Rattle.model_commands.specs.declared.requests.Query.{Query};
-ghost use Rattle.office_service.specs.Machine.{answer, one_of, show_item, show_voucher, show_order};
+ghost use Rattle.office_other.specs.Machine.{answer, one_of, show_item, show_voucher, show_order};
 ghost use Rattle.office_commands.specs.Told.{IfOkIs};
 
 use crate::office::Office;
@@ -14,7 +14,7 @@ use model_commands::{
 };
 use model_invariant::numbers::by_positionid;
 use model_rows::{Order, OrderRows, Voucher};
-use office_service::show_voucher;
+use office_other::show_voucher;
 use std::alloc::{AllocError, Global};
 
 impl<B: Book> Office<B> {

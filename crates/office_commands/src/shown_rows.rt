@@ -2,7 +2,7 @@
 
 ghost use Rattle.model_commands.specs.declared.replies.Shown.{Shown};
 ghost use Rattle.model_rows.specs.Lists.{Lists};
-ghost use Rattle.office_service.specs.Machine.{show_item, show_quota, show_voucher, show_cart, show_order, show_waiting, show_checkin_list};
+ghost use Rattle.office_other.specs.Machine.{show_item, show_quota, show_voucher, show_cart, show_order, show_waiting, show_checkin_list};
 ghost use Rattle.office_commands.specs.Told.{IfOkIs};
 
 use crate::office::Office;

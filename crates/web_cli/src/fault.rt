@@ -4,7 +4,7 @@ ghost use Rattle.std.specs.Prelude.{◌≡◌};
 ghost use Rattle.web_cli.specs.Faults.{as_fault, fault_number};
 
 use crate::argument::Argument;
-use model_rules::Rule;
+use model_damage::Rule;
 use std::alloc::AllocError;
 use std::fmt;
 use web_connection::Failure;

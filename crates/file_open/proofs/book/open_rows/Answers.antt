@@ -1,9 +1,9 @@
 use Rattle.std.proofs.Common.{sym, subst, ap, ◌∙◌}
 use Rattle.model_invariant.specs.Sound.{IsSound}
-use Rattle.model_rules.specs.declared.rule.Rule.TheVariants.{Counters}
-use Rattle.model_rules.specs.Rules.{File}
-use Rattle.model_rules.specs.Told.{file_of}
-use Rattle.model_rules.proofs.Sounds.{sound_of}
+use Rattle.model_damage.specs.declared.rule.Rule.TheVariants.{Counters}
+use Rattle.model_damage.specs.Rules.{File}
+use Rattle.model_damage.specs.Told.{file_of}
+use Rattle.model_damage.proofs.Sounds.{sound_of}
 use Rattle.file_open.proofs.Least.{why}
 use Rattle.file_open.proofs.Refused.{stand_as}
 use Rattle.file_open.proofs.book.open_rows.Goals as goal

@@ -1,5 +1,5 @@
 use Rattle.std.proofs.Common.{◌↔◌, IsTrue, subst}
-use Rattle.model_rules.specs.Rules.{File}
+use Rattle.model_damage.specs.Rules.{File}
 use Rattle.file_meaning.specs.Stands.{AreRowsOf}
 use Rattle.file_rebuild.specs.Arranged.{rows_in, ArePaired}
 use Rattle.file_meaning.specs.Typed.{AreBelowNext}

@@ -5,8 +5,8 @@ use Rattle.model_rows.specs.Lists.{State}
 use Rattle.model_rows.specs.Change.{changes_applied}
 use Rattle.model_invariant.specs.Sound.{IsSound}
 use Rattle.model_commands.specs.declared.replies.Reply.{Reply}
-use Rattle.office_service.specs.Machine.{IsStep}
-use Rattle.office_service.proofs.Machine.{step_sound}
+use Rattle.office_other.specs.Machine.{IsStep}
+use Rattle.office_other.proofs.Machine.{step_sound}
 use Rattle.office_commands.proofs.office.Office.decide.Goals as goal
 
 pub returns-clause-step : goal.returns-clause-step

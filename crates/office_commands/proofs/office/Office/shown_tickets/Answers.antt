@@ -3,7 +3,7 @@ use Rattle.model_rows.specs.declared.rows.OrderPos.{OrderPos}
 use Rattle.model_rows.specs.Lists.{State}
 use Rattle.model_commands.specs.declared.doors.ListedTicket.{ListedTicket}
 use Rattle.model_commands.specs.declared.replies.Shown.TheVariants.{Ticket}
-use Rattle.office_service.specs.Machine.{belonging, ticket_of, show_ticket}
+use Rattle.office_other.specs.Machine.{belonging, ticket_of, show_ticket}
 use Rattle.model_commands.proofs.PageRows.{map_twice}
 use Rattle.office_commands.proofs.office.Office.shown_tickets.Goals as goal
 

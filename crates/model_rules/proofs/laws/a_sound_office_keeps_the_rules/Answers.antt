@@ -1,5 +1,0 @@
-use Rattle.model_rules.proofs.Sounds.{keeps_all}
-use Rattle.model_rules.proofs.laws.a_sound_office_keeps_the_rules.Goals as goal
-
-pub returns : goal.returns
-returns c = λ file rule organizer event sound counted. keeps_all file rule organizer event sound counted

@@ -1,5 +1,0 @@
-use Rattle.model_rules.proofs.Sounds.{sound_of}
-use Rattle.model_rules.proofs.laws.what_keeps_the_rules_is_sound.Goals as goal
-
-pub returns : goal.returns
-returns c = λ file all. sound_of file all
