@@ -5,16 +5,16 @@
 #![tactic(auto)]
 
 pub mod feeding;
-pub mod filing;
-pub mod house;
+pub mod file_commands;
+pub mod memory_shop;
 pub mod laws;
-pub mod line;
+pub mod dispatch;
 pub mod opening;
 pub mod typed;
 
 pub use feeding::{feed, feed_texts};
-pub use filing::{add_token, export_shop, make_shop, report_shop, run_serve, work_shop};
-pub use house::run_memory_shop;
-pub use line::run;
+pub use file_commands::{add_token, export_shop, make_shop, report_shop, run_serve, work_shop};
+pub use memory_shop::run_memory_shop;
+pub use dispatch::run;
 pub use opening::{open_memory, open_store};
 pub use typed::add_typed_token;

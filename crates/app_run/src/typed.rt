@@ -8,7 +8,7 @@ ghost use Rattle.app_run.specs.Feed.{OnPorts};
 ghost use Rattle.app_run.specs.Line.{AddsLine, AddsTyped};
 ghost use Rattle.app_run.specs.Typed.{IsFirstLine, byte_of, uncut};
 
-use crate::filing::add_token;
+use crate::file_commands::add_token;
 use base_devices::{Drain, Refused, Source};
 use std::alloc::Global;
 use web_cli::{Argument, HouseFiles, RunFault};

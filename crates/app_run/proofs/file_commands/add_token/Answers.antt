@@ -4,7 +4,7 @@ use Rattle.web_http.specs.Written.{Page, writer_page}
 use Rattle.web_http.proofs.WriteLemmas.{writes_as}
 use Rattle.web_cli.specs.Values.{is_token}
 use Rattle.app_run.proofs.SayLemmas.{adds_there}
-use Rattle.app_run.proofs.filing.add_token.Goals as goal
+use Rattle.app_run.proofs.file_commands.add_token.Goals as goal
 
 pub returns-in-Ok : goal.returns-in-Ok
 returns-in-Ok g c =

@@ -7,7 +7,7 @@ ghost use Rattle.web_cli.specs.Saying.{OnPage};
 ghost use Rattle.web_cli.specs.Values.{report_of};
 
 use crate::feeding::feed_texts;
-use crate::filing::{
+use crate::file_commands::{
     add_token, export_shop, import_vouchers, make_shop, report_shop, run_serve, work_shop,
 };
 use crate::typed::add_typed_token;

@@ -1,7 +1,7 @@
 use Rattle.std.proofs.Common.{◌≡◌, ◌++◌, ◌∷◌, [], List, ℕ, ap, Ok}
 use Rattle.web_http.specs.Written.{Page, writer_page}
 use Rattle.web_http.proofs.WriteLemmas.{writes_as}
-use Rattle.app_run.proofs.filing.work_shop.Goals as goal
+use Rattle.app_run.proofs.file_commands.work_shop.Goals as goal
 
 pub returns-in-Ok : goal.returns-in-Ok
 returns-in-Ok g c =

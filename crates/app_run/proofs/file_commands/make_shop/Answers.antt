@@ -2,7 +2,7 @@ use Rattle.std.proofs.Common.{◌≡◌, ◌&&◌, rules, true, Ok}
 use Rattle.base_values.specs.Slugs.{is_slug}
 use Rattle.web_http.specs.Written.{Page, writer_page}
 use Rattle.app_run.proofs.SayLemmas.{makes_there}
-use Rattle.app_run.proofs.filing.make_shop.Goals as goal
+use Rattle.app_run.proofs.file_commands.make_shop.Goals as goal
 
 pub returns-in-Ok : goal.returns-in-Ok
 returns-in-Ok g c =

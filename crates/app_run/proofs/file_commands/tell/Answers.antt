@@ -1,6 +1,6 @@
 use Rattle.web_http.specs.Written.{Page, writer_page}
 use Rattle.web_http.proofs.WriteLemmas.{writes_as}
-use Rattle.app_run.proofs.filing.tell.Goals as goal
+use Rattle.app_run.proofs.file_commands.tell.Goals as goal
 
 pub returns-in-Ok : goal.returns-in-Ok
 returns-in-Ok g c =
