@@ -1,7 +1,7 @@
 -- Lines that are gathered, and handed on to a writer.
 use Rattle.std.specs.Prelude.{◌≡◌, ℕ, ◌+◌, List, ◌++◌, Result, Ok, Err}
 use Rattle.csv.specs.Writing.{writer_under}
-use Rattle.base_devices.specs.Told.{Adds}
+use Rattle.base_devices.specs.Reported.{Adds}
 use Rattle.web_http.specs.Written.{AddsPart, Page}
 use Rattle.model_export.specs.declared.sink.SinkFault.{SinkFault}
 use Rattle.model_export.specs.declared.sink.SinkFault.TheVariants.{Memory, Output}

@@ -6,7 +6,7 @@ use Rattle.file_schema.specs.declared.error.RowError.{RowError}
 use Rattle.file_schema.specs.declared.error.RowError.TheVariants as row-errors
 use Rattle.file_scan.specs.Rests.{Rests}
 use Rattle.file_scan.specs.Took.{Took}
-use Rattle.base_devices.specs.Told.{Adds}
+use Rattle.base_devices.specs.Reported.{Adds}
 use Rattle.base_devices.proofs.ToldLemmas.{Adds-nil, Adds-append}
 use Rattle.web_http.specs.Written.{Page}
 use Rattle.web_cli.specs.Saying.{CountsCut}

@@ -11,7 +11,7 @@ use Rattle.file_scan.proofs.LimitLemmas.{sound_fits}
 use Rattle.file_scan.proofs.Stays.{at_same, then_stays}
 use Rattle.file_tables.specs.declared.sql.SqlTables.{SqlTables}
 use Rattle.web_handler.specs.Streams.{HandlerView}
-use Rattle.base_devices.specs.Told.{Adds}
+use Rattle.base_devices.specs.Reported.{Adds}
 use Rattle.base_devices.proofs.ToldLemmas.{Adds-nil}
 use Rattle.web_http.specs.Written.{Page}
 use Rattle.web_cli.specs.Saying.{CountsCut, CountsEnd}

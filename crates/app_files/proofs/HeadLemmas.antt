@@ -4,7 +4,7 @@ use Rattle.std.proofs.lemmas.List.{drop-append-le, take-append-le, length-take, 
 use Rattle.std.proofs.lemmas.Bool.{cases_lt}
 use Rattle.std.proofs.Math.Seq.{drop-append-add, take-append-add}
 use Rattle.std.specs.Cmp.Lexicographic.{pointwise}
-use Rattle.base_devices.specs.Told.{Gives}
+use Rattle.base_devices.specs.Reported.{Gives}
 use Rattle.base_devices.proofs.ToldLemmas.{Gives-append}
 use Rattle.app_files.specs.Heads.{HasMarkAt, HasNoMark, shop_mark}
 

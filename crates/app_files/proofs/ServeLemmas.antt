@@ -31,7 +31,7 @@ module _ {S : Type 0} (reads : Option Tick → Type 0) (tables : Meaning (SqlTab
 
   -- there was no memory for the words
   pub nobody_answered : (first : HandlerView (SqlTables S)) (left : Connection S) → left ≡ first.tables.connection → LeadsFrom reads tables most first left (Err faults.Memory)
-  nobody_answered first left is = record { last = first; serving = (record { came = 0; within = omega arith; all = history [] [] []; connections = nobody_came _ (between None first); begun = []; told = tt; among = refl }, refl); connection = is }
+  nobody_answered first left is = record { last = first; serving = (record { came = 0; within = omega arith; all = history [] [] []; connections = nobody_came _ (between None first); begun = []; reported = tt; among = refl }, refl); connection = is }
 
   pub is_served : (g : Ghosts S) (old : Connected) (before after : Page) (handler : HandlerView (SqlTables S)) (left : Connection S) (outcome : Result (Unit {0}) RunFault) → OpensAs g old handler
       → LeadsFrom reads tables most handler left outcome → IsOpenedAndServed reads g tables most old left outcome ⊎ (StaysUnopened g old left outcome × IsSilent before after)

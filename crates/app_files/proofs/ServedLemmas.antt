@@ -22,8 +22,8 @@ pub answers_by : {D E : Type 0} (Serves : D → Tick → Message → Answer → 
     (outcome : Result (Unit {0}) RunFault) (x : AnswersCallers Serves most old new None None outcome)
     → Connections Other (served_of Serves most old new outcome x).came seen left (served_of Serves most old new outcome x).all → AnswersCallers Other most seen left None None outcome
 unfolding served_of
-answers_by Serves Other most old new seen left (Ok u) served connections = record { came = served.came; within = served.within; all = served.all; connections = connections; begun = served.begun; told = served.told; among = served.among }
-answers_by Serves Other most old new seen left (Err fault) (served, ends) connections = (record { came = served.came; within = served.within; all = served.all; connections = connections; begun = served.begun; told = served.told; among = served.among }, ends)
+answers_by Serves Other most old new seen left (Ok u) served connections = record { came = served.came; within = served.within; all = served.all; connections = connections; begun = served.begun; reported = served.reported; among = served.among }
+answers_by Serves Other most old new seen left (Err fault) (served, ends) connections = (record { came = served.came; within = served.within; all = served.all; connections = connections; begun = served.begun; reported = served.reported; among = served.among }, ends)
 
 -- the same handler runs so
 pub runs_as : {T : Type 0} (tables : Meaning T) (house : House) (begun : Running) (events : List Event) (handler other : HandlerView T) (r : Running) → other ≡ handler

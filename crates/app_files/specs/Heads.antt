@@ -1,7 +1,7 @@
 -- Whether a file can be a shop's, by its bytes.
 use Rattle.std.specs.Prelude.{◌≡◌, ℕ, ◌<◌, ◌==◌, Bool, true, false, List, length, drop, [], ◌∷◌, ◌++◌, Option, codes}
 use Rattle.std.specs.List.{starts_with}
-use Rattle.base_devices.specs.Told.{Gives}
+use Rattle.base_devices.specs.Reported.{Gives}
 use Rattle.std.specs.Io.KnownBytes.{IsAtEnd}
 
 -- each SQLite file begins with this

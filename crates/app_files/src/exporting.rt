@@ -2,7 +2,7 @@
 
 ghost use Rattle.std.specs.Prelude.{ℕ, List};
 ghost use Rattle.sqlite.specs.Held.{state};
-ghost use Rattle.base_devices.specs.Told.{Adds};
+ghost use Rattle.base_devices.specs.Reported.{Adds};
 ghost use Rattle.app_files.specs.Exported.{IsExported};
 ghost use Rattle.web_cli.specs.Saying.{CountsEnd};
 

@@ -3,7 +3,7 @@
 ghost use Rattle.std.specs.Prelude.{◌≡◌, ◌+◌, ◌-◌, ◌<◌, ◌≤◌, ℕ, false, List, length, take, drop, IfOk, IsTrue};
 ghost use Rattle.app_files.specs.Heads.{HasMarkAt, IsBehind, TellsMark, begins_as_database};
 ghost use Rattle.std.specs.Io.KnownBytes.{IsAtEnd};
-ghost use Rattle.base_devices.specs.Told.{Gives};
+ghost use Rattle.base_devices.specs.Reported.{Gives};
 
 use std::io;
 use std::io::Read;

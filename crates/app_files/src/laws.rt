@@ -49,7 +49,7 @@ use file_tables::SqlTables;
 use model_answers::Tables;
 use office_deliveries::laws::shops_run_in_any_words;
 use sqlite::{Alter, Connection};
-use web_callers::laws::{callers_are_told_once, callers_go_on_with_a_history, callers_run_on};
+use web_callers::laws::{callers_are_answered_once, callers_go_on_with_a_history, callers_run_on};
 
 /// A shop that was running has answered callers, and the machine stops; its file is opened again. It is the handler of the same house: the
 /// same names, the same tokens by their numbers, the same next one. It is running again, as it was or with one write carried out that had
@@ -61,10 +61,10 @@ pub fn callers_go_on_after_a_crash<S: Alter, K: Ticks>(
     again: &SqlTables<S>,
 )
     ensures goes_on { (house : House) (r : Running) (came : ℕ) (all : History)
-        (first : Between (HandlerView (SqlTables S))) (told : Option (List Tick))
+        (first : Between (HandlerView (SqlTables S))) (reported : Option (List Tick))
         (organizer event : List ℕ) (s : State)
         → let tables = trait_meaning ⟦<SqlTables<S> as Tables>⟧
-        in let end = between told (handler_with last.now organizer event s)
+        in let end = between reported (handler_with last.now organizer event s)
         in Connections (AtTick K.reads (Serves tables)) came first end all → IsOf tables house first.handler
         → IsRunningAs tables house first.handler r
         → IsFound (state S.Store last.now.connection) (state S.Store fresh.now)
@@ -77,11 +77,11 @@ pub fn callers_go_on_after_a_crash<S: Alter, K: Ticks>(
         × IsRunningAs tables house (handler_with again.now name happening z)
         (running_from (words_of house) x) }
     ensures unharmed { (house : House) (r : Running) (came : ℕ) (all : History)
-        (first : Between (HandlerView (SqlTables S))) (told : Option (List Tick))
+        (first : Between (HandlerView (SqlTables S))) (reported : Option (List Tick))
         (organizer event : List ℕ) (s : State)
         → let tables = trait_meaning ⟦<SqlTables<S> as Tables>⟧
         in Connections (AtTick K.reads (Serves tables)) came first
-        (between told (handler_with last.now organizer event s)) all → IsOf tables house first.handler
+        (between reported (handler_with last.now organizer event s)) all → IsOf tables house first.handler
         → IsRunningAs tables house first.handler r
         → IsFound (state S.Store last.now.connection) (state S.Store fresh.now)
         → (error : OpenError) → IsReason (state S.Store fresh.now).now error → IsOfMachine error }
@@ -140,12 +140,12 @@ pub fn an_evening_is_one_history<S: Alter, K: Ticks>(
     again: &SqlTables<S>,
 )
     ensures { (house : House) (begun r : Running) (es : List Event) (n m : ℕ) (before after : History)
-        (first end : Between (HandlerView (SqlTables S))) (told : Option (List Tick))
+        (first end : Between (HandlerView (SqlTables S))) (reported : Option (List Tick))
         (a b c d : HandlerView (SqlTables S)) (words : Reply → Response) (command : Command)
         (tick : Tick) (outcome : Result (List ℕ) RunFault)
         → let tables = trait_meaning ⟦<SqlTables<S> as Tables>⟧
         in RunsSo tables house begun es first.handler r
-        → Connections (AtTick K.reads (Serves tables)) n first (between told (over served.now a)) before
+        → Connections (AtTick K.reads (Serves tables)) n first (between reported (over served.now a)) before
         → IsOpenedAgain S.Store (state S.Store served.now.connection) (state S.Store closed.now)
         (over opened_for.now b)
         → Acts words command tick tables (over opened_for.now b) (over acted.now c) outcome
@@ -154,7 +154,7 @@ pub fn an_evening_is_one_history<S: Alter, K: Ticks>(
         → Connections (AtTick K.reads (Serves tables)) m (between None (over again.now d)) end after
         → HasCleanDisk (state S.Store end.handler.tables.connection)
         → (fs : List Event) × (x : ShopView) × (answer : Answer) × (gs : List Event) × (q : Running)
-        × Connections (AtTick K.reads (ServesHistory house)) n (seen_at first es) (between told fs) before
+        × Connections (AtTick K.reads (ServesHistory house)) n (seen_at first es) (between reported fs) before
         × (outcome ≡ told_of answer)
         × Connections (AtTick K.reads (ServesHistory house)) m (between None
         (((fs ++ Crashed ∷ []) ++ event_of (words_of house) (own_arrival command tick) answer x
@@ -169,7 +169,7 @@ pub fn an_evening_is_one_history<S: Alter, K: Ticks>(
 /// What `serve` promises, seen whole: a shop whose file was opened stood for a list of arrivals; callers came, many at once, and the connection was
 /// handed back. Over a disk that returned what was written there is one list of arrivals for which it stands then, those of all messages that were
 /// acted on behind the others: each caller was answered as that list has it, or 503, in its own order and with nothing of another's.
-pub fn what_is_served_is_told_once<S: Alter, K: Ticks>(file: &Connection<S>)
+pub fn what_is_served_is_answered_once<S: Alter, K: Ticks>(file: &Connection<S>)
     ensures { (house : House) (p : Opening) (ds : List Delivery) (most : ℕ) (left : Connection S)
         (outcome : Result (Unit {0}) RunFault)
         → let tables = trait_meaning ⟦<SqlTables<S> as Tables>⟧
@@ -181,7 +181,7 @@ pub fn what_is_served_is_told_once<S: Alter, K: Ticks>(file: &Connection<S>)
         × HasList tables (words_of house) served.leads.last p es }
 {
     let _ = file;
-    callers_are_told_once::<SqlTables<S>, K>();
+    callers_are_answered_once::<SqlTables<S>, K>();
 }
 
 /// A shop was running, a command has ended or the machine has stopped, and `serve` opened its file again and answered callers: that is one history, and

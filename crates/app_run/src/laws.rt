@@ -31,7 +31,7 @@ pub fn what_is_fed_takes_nothing_too_much<T: Tables>()
 
 /// Whatever bytes are fed to a fresh shop, over whatever tables: there is a list of arrivals, those of the messages that were acted
 /// on, of which each was told what is told of the list, or 503; and the shop stands for it.
-pub fn what_is_fed_is_told_once<T: Tables>()
+pub fn what_is_fed_is_answered_once<T: Tables>()
     ensures { (first : HandlerView T) (from step : ℕ) (old new : Ports)
         (result : Result (Unit {0}) Failure)
         → let tables = trait_meaning T.Tables in IsFresh tables first
@@ -52,7 +52,7 @@ pub fn what_feed_is_fed_takes_nothing_too_much()
 
 /// Whatever bytes are fed to `feed`: there is a list of arrivals, those of the messages that were acted on, of which each was told
 /// what is told of the list, or 503.
-pub fn what_feed_is_fed_is_told_once()
+pub fn what_feed_is_fed_is_answered_once()
     ensures { (from step : ℕ) (old new : Ports) (result : Result (Unit {0}) Failure)
         → Feeds from step old new result
         → (count : ℕ) × (es : List Delivery) × LeadsList from step count old new es result }

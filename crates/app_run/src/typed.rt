@@ -2,7 +2,7 @@
 
 ghost use Rattle.std.specs.Prelude.{◌≡◌, ◌+◌, ◌≤◌, [], None, take, IfOk, OnOk, OnErr};
 ghost use Rattle.std.specs.Io.KnownBytes.{IsAtEnd};
-ghost use Rattle.base_devices.specs.Told.{Gives};
+ghost use Rattle.base_devices.specs.Reported.{Gives};
 ghost use Rattle.web_cli.specs.Saying.{OnPage};
 ghost use Rattle.app_run.specs.Feed.{OnPorts};
 ghost use Rattle.app_run.specs.Line.{AddsLine, AddsTyped};

@@ -1,7 +1,7 @@
 -- One addition after another.
 use Rattle.std.proofs.Common.{◌≡◌, ℕ, ◌+◌, ◌-◌, List, [], ◌++◌, length, take, drop, Option, Some, None, refl, sym, ap, ap₂, ◌∙◌, arith, append_assoc, append-nil, take-append-drop}
 use Rattle.std.proofs.lemmas.List.{take-take, drop-take, take_rest}
-use Rattle.base_devices.specs.Told.{Adds, Gives}
+use Rattle.base_devices.specs.Reported.{Adds, Gives}
 use Rattle.std.proofs.KnownBytes.{Consumes-trans}
 
 pub Adds-nil : {X : Type 0} (a : Option (List X)) → Adds a [] a

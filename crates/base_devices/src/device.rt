@@ -2,7 +2,7 @@
 
 ghost use Rattle.std.specs.Prelude.{◌≡◌, ℕ, ◌+◌, ◌<◌, ◌≤◌, List, [], ◌∷◌, Option, Some, None, length, IfOk, OnOk, OnErr};
 ghost use Rattle.std.specs.Io.KnownBytes.{IsAtEnd};
-ghost use Rattle.base_devices.specs.Told.{Adds, AddsSoMany, Gives, GivesSoMany};
+ghost use Rattle.base_devices.specs.Reported.{Adds, AddsSoMany, Gives, GivesSoMany};
 ghost use Rattle.base_devices.specs.declared.device.Tick.{Tick};
 
 use base_values::{Draw, Moment};
@@ -61,7 +61,7 @@ pub struct Tick {
 /// A clock with draws.
 pub trait Ticks {
     // the ticks that were told
-    ghost told: { Self → Option (List Tick) };
+    ghost reported: { Self → Option (List Tick) };
 
     // what is known of a tick that was told, or where there was none
     ghost reads: { Option Tick → Type 0 };
@@ -73,8 +73,8 @@ pub trait Ticks {
     fn tick(&mut self) -> Result<Tick, Refused>
         ensures read { IfOk result (λ t. reads (Some t)) }
         ensures unread { OnErr result (reads None) }
-        ensures told { IfOk result (λ t. Adds (told self.old) (t ∷ []) (told self.new)) }
-        ensures kept { OnErr result (Adds (told self.old) [] (told self.new)) }
+        ensures reported { IfOk result (λ t. Adds (reported self.old) (t ∷ []) (reported self.new)) }
+        ensures kept { OnErr result (Adds (reported self.old) [] (reported self.new)) }
         ensures well { OnOk result (failures self.new ≡ failures self.old) }
         ensures failed { OnErr result (failures self.new ≡ failures self.old + 1) };
 }

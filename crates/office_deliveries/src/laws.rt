@@ -33,7 +33,7 @@ pub fn openings_stand()
 
 /// A repeat that comes before a day has passed since its first arrival was executed is told what that was told, whatever it
 /// asks for, and whatever came between.
-pub fn repeats_are_told_again()
+pub fn repeats_are_answered_again()
     ensures { (words : Reply → Response) (t : TwoArrivals) → ToldAgain words t }
 {}
 

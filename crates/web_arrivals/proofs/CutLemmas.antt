@@ -1,6 +1,6 @@
 -- Two whole runs over the same bytes.
 use Rattle.std.proofs.Common.{◌≡◌, ℕ, List, [], ◌∷◌, ◌++◌, Option, Some, sym, ap, ◌∙◌, subst}
-use Rattle.base_devices.specs.Told.{Adds, Gives}
+use Rattle.base_devices.specs.Reported.{Adds, Gives}
 use Rattle.base_devices.specs.declared.device.Tick.{Tick}
 use Rattle.web_http.specs.Messages.{Messages}
 use Rattle.web_http.proofs.MessageLemmas.{Messages_unique}
@@ -29,22 +29,22 @@ added_same front xs ys new newer is are same = cancel front xs ys (cc (is, are, 
 module _ {T : Type 0} (tables : Meaning T) (house : House) (v : ShopView) (bytes : List ℕ) (ticks : List Tick) (written : List ℕ) (old new : Devices (HandlerView T))
     (p : RunsWhole tables house v bytes ticks written old new) where
   -- the run itself
-  abbrev pub ended : Finished (Decides tables) (AreAll p.run.bytes new.left) (cursor p.run.bytes old.told old.handler old.taken) (cursor [] new.told new.handler new.taken)
+  abbrev pub ended : Finished (Decides tables) (AreAll p.run.bytes new.left) (cursor p.run.bytes old.reported old.handler old.taken) (cursor [] new.reported new.handler new.taken)
   ended = p.run.streams
 
   -- its messages are those of the bytes
   pub all_messages : Messages bytes ended.items
   all_messages = all_answered bytes p.run.bytes new.left ended.items (subst (λ (left : Option (List ℕ)). Gives left p.run.bytes new.left) p.to_come p.run.given) ended.all
 
-  pub all_ticks : new.told ≡ Some (ticks ++ ended.ticks)
-  all_ticks = added ticks ended.ticks old.told new.told p.ticked ended.told
+  pub all_ticks : new.reported ≡ Some (ticks ++ ended.ticks)
+  all_ticks = added ticks ended.ticks old.reported new.reported p.ticked ended.reported
 
   pub all_written : new.taken ≡ Some (written ++ ended.written)
   all_written = added written ended.written old.taken new.taken p.wrote ended.taken
 
 pub cuts-alike : {T U : Type 0} (tables : Meaning T) (others : Meaning U) (house : House) (v : ShopView) (bytes : List ℕ) (ticks : List Tick) (written : List ℕ)
     (old new : Devices (HandlerView T)) (other newer : Devices (HandlerView U))
-    → RunsWhole tables house v bytes ticks written old new → RunsWhole others house v bytes ticks written other newer → new.told ≡ newer.told
+    → RunsWhole tables house v bytes ticks written old new → RunsWhole others house v bytes ticks written other newer → new.reported ≡ newer.reported
     → (new.taken ≡ newer.taken) × ((w : ShopView) × Views tables.holds new.handler.tables new.handler.state w × Views others.holds newer.handler.tables newer.handler.state w)
 cuts-alike tables others house v bytes ticks written old new other newer p q same =
     let f = ended tables house v bytes ticks written old new p in
@@ -52,7 +52,7 @@ cuts-alike tables others house v bytes ticks written old new other newer p q sam
     let items : g.items ≡ f.items =
     Messages_unique bytes g.items f.items (all_messages others house v bytes ticks written other newer q) (all_messages tables house v bytes ticks written old new p) in
     let ticked : g.ticks ≡ f.ticks =
-    added_same ticks g.ticks f.ticks newer.told new.told (all_ticks others house v bytes ticks written other newer q) (all_ticks tables house v bytes ticks written old new p) (sym same) in
+    added_same ticks g.ticks f.ticks newer.reported new.reported (all_ticks others house v bytes ticks written other newer q) (all_ticks tables house v bytes ticks written old new p) (sym same) in
     let runs : Runs (Decides others) other.handler f.ticks f.items g.written newer.handler =
     subst (λ (is : List Item). Runs (Decides others) other.handler f.ticks is g.written newer.handler) items (subst (λ (ts : List Tick). Runs (Decides others) other.handler ts g.items g.written newer.handler) ticked g.runs) in
     let both = all-alike tables others house v old.handler new.handler other.handler newer.handler f.ticks f.items f.written g.written f.runs runs p.sure q.sure p.of q.of p.views q.views in (

@@ -15,5 +15,5 @@ pub record RunsWhole {T : Type 0} (tables : Meaning T) (house : House) (shop : S
   pub of : IsOf tables house old.handler
   pub views : HasShop tables old.handler shop
   pub to_come : old.left ≡ Some bytes
-  pub ticked : old.told ≡ Some ticks
+  pub ticked : old.reported ≡ Some ticks
   pub wrote : old.taken ≡ Some written

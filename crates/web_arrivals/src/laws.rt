@@ -20,7 +20,7 @@ use model_answers::Tables;
 /// Whatever a stream brings, and wherever it breaks off: a shop that stands for a list of arrivals stands at the end for that
 /// list and those of the messages that were acted on behind it, each of which was told what is told of the list, or 503; and
 /// what is written is the text of these answers, in order, or where the writer failed its front.
-pub fn streams_are_told_once<T: Tables>()
+pub fn streams_are_answered_once<T: Tables>()
     ensures { (house : House) (p : Opening) (ds : List Delivery) (old new : Devices (HandlerView T))
         (result : Result (Unit {0}) Failure) → let tables = trait_meaning T.Tables in
         RunLeads (Serves tables) old new result → T.sure new.handler.tables
@@ -84,7 +84,7 @@ pub fn cuts_are_alike<T: Tables, U: Tables>()
         (written : List ℕ) (old new : Devices (HandlerView T)) (other newer : Devices (HandlerView U))
         → let tables = trait_meaning T.Tables in let others = trait_meaning U.Tables in
         RunsWhole tables house v bytes ticks written old new
-        → RunsWhole others house v bytes ticks written other newer → new.told ≡ newer.told
+        → RunsWhole others house v bytes ticks written other newer → new.reported ≡ newer.reported
         → (new.taken ≡ newer.taken)
         × ((w : ShopView) × HasShop tables new.handler w × HasShop others newer.handler w) }
 {}

@@ -20,7 +20,7 @@ use model_answers::Tables;
 /// Each of them was answered as that list has it, or 503. A request that comes again on another connection buys nothing twice. Each caller has
 /// the same conversation as before: the acts of its own bytes, in order. What was known of the ticks is known of these arrivals, in this law and
 /// in the others.
-pub fn callers_are_told_once<T: Tables, K: Ticks>()
+pub fn callers_are_answered_once<T: Tables, K: Ticks>()
     ensures { (house : House) (p : Opening) (ds : List Delivery) (came : ℕ)
         (old new : Between (HandlerView T)) (all : History) → let tables = trait_meaning T.Tables in
         Connections (AtTick K.reads (Serves tables)) came old new all → T.sure new.handler.tables

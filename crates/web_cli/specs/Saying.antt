@@ -4,7 +4,7 @@ use Rattle.std.specs.Fmt.{decimal}
 use Rattle.std.specs.declared.net.socket_addr.SocketAddr.{SocketAddr}
 use Rattle.base_values.specs.Slugs.{is_slug}
 use Rattle.web_connection.specs.declared.failure.Failure.TheVariants as failures
-use Rattle.base_devices.specs.Told.{Adds}
+use Rattle.base_devices.specs.Reported.{Adds}
 use Rattle.base_devices.specs.declared.device.Drain.{Ghosts}
 use Rattle.base_devices.specs.declared.device.Refused.{Refused}
 use Rattle.web_http.specs.Written.{Page, Writes, writer_page}

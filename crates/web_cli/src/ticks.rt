@@ -33,33 +33,33 @@ pub struct FeedTicks<P: Pace, M: Ledger> {
     /// The seconds from one tick to the next.
     pub step: u64,
     /// How many were told.
-    pub told: u64,
+    pub reported: u64,
     /// How many calls failed: those after the last number of a `u64`.
     pub failures: Steps<M>,
     /// When requests come.
     pub pace: PhantomData<P>,
     ghost begins: { from ≡ P.from },
     ghost goes_on: { step ≡ P.step },
-    ghost at_end: { 0 < failures → told ≡ 18446744073709551615 },
+    ghost at_end: { 0 < failures → reported ≡ 18446744073709551615 },
 }
 
 impl<P: Pace, M: Ledger> Ticks for FeedTicks<P, M> {
-    ghost told = { λ t. Some (feed_ticks P.from P.step t.told) };
+    ghost reported = { λ t. Some (feed_ticks P.from P.step t.reported) };
 
     ghost reads = { λ _. ⊤ };
 
     ghost failures = { λ t. t.failures };
 
     fn tick(&mut self) -> Result<Tick, Refused> {
-        let Some(number) = self.told.checked_add(1) else {
+        let Some(number) = self.reported.checked_add(1) else {
             self.failures.tick();
             return Err(Refused);
         };
-        let clock = self.from.later(self.told.saturating_mul(self.step));
+        let clock = self.from.later(self.reported.saturating_mul(self.step));
         let draw = Draw {
             bytes: (number as u128).to_be_bytes(),
         };
-        self.told = number;
+        self.reported = number;
         Ok(Tick { clock, draw })
     }
 }

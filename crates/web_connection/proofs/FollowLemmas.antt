@@ -24,7 +24,7 @@ follows_at reads Serves Other Sure Seen follows = record {
 
 -- a place in a run with another handler there
 abbrev pub seen_as : {D E : Type 0} → Cursor D → E → Cursor E
-seen_as place handler = cursor place.left place.told handler place.taken
+seen_as place handler = cursor place.left place.reported handler place.taken
 
 -- where a handler is sure after a run, it was so before it
 module _ {D : Type 0} (Serves : D → Tick → Message → Answer → D → Type 0) (Sure : D → Type 0)
@@ -51,7 +51,7 @@ module _ {D : Type 0} (Serves : D → Tick → Message → Answer → D → Type
       runs_sure old.handler before.ticks (map whole before.messages) before.written broken.mid.handler before.runs (breaks_sure e broken.mid new broken.last sure)
 
   pub run_sure : (old new : Devices D) (result : Result (Unit {0}) Failure) → RunLeads Serves old new result → Sure new.handler → Sure old.handler
-  run_sure old new result run sure = streams_sure new.left (cursor run.bytes old.told old.handler old.taken) (cursor [] new.told new.handler new.taken) result run.streams sure
+  run_sure old new result run sure = streams_sure new.left (cursor run.bytes old.reported old.handler old.taken) (cursor [] new.reported new.handler new.taken) result run.streams sure
 
 module _ {D E : Type 0} (Serves : D → Tick → Message → Answer → D → Type 0) (Other : E → Tick → Message → Answer → E → Type 0) (Sure : D → Type 0) (Seen : D → E → Type 0)
     (follows : Follows Serves Other Sure Seen) where
@@ -70,25 +70,25 @@ module _ {D E : Type 0} (Serves : D → Tick → Message → Answer → D → Ty
   progress_follows : (old new : Cursor D) (seen : E) → Progress Serves old new → Sure new.handler → Seen old.handler seen → (left : E) × Progress Other (seen_as old seen) (seen_as new left) × Seen new.handler left
   progress_follows old new seen p sure is =
       let x = runs_follow old.handler p.ticks (map whole p.messages) p.written new.handler seen p.runs sure is in
-      (x.0, record { messages = p.messages; ticks = p.ticks; written = p.written; chain = p.chain; told = p.told; taken = p.taken; runs = x.1 }, x.2)
+      (x.0, record { messages = p.messages; ticks = p.ticks; written = p.written; chain = p.chain; reported = p.reported; taken = p.taken; runs = x.1 }, x.2)
 
   finished_follows : (IsOf : List Item → Type 0) (old new : Cursor D) (seen : E) → Finished Serves IsOf old new → Sure new.handler → Seen old.handler seen
       → (left : E) × Finished Other IsOf (seen_as old seen) (seen_as new left) × Seen new.handler left
   finished_follows IsOf old new seen f sure is =
       let x = runs_follow old.handler f.ticks f.items f.written new.handler seen f.runs sure is in
-      (x.0, record { items = f.items; ticks = f.ticks; written = f.written; all = f.all; told = f.told; taken = f.taken; runs = x.1 }, x.2)
+      (x.0, record { items = f.items; ticks = f.ticks; written = f.written; all = f.all; reported = f.reported; taken = f.taken; runs = x.1 }, x.2)
 
   -- where a run breaks off
   abbrev pub BreaksSeen : Failure → Cursor D → Cursor D → E → Type 0
   BreaksSeen e mid new seen = (left : E) × BreaksOff Other e (seen_as mid seen) (seen_as new left) × Seen new.handler left
 
   stopped_follows : (mid new : Cursor D) (seen : E) → Stopped mid new → Seen mid.handler seen → Stopped (seen_as mid seen) (seen_as new seen) × Seen new.handler seen
-  stopped_follows mid new seen stopped is = (record { told = stopped.told; taken = stopped.taken; handler = refl }, subst (λ (d : D). Seen d seen) (sym stopped.handler) is)
+  stopped_follows mid new seen stopped is = (record { reported = stopped.reported; taken = stopped.taken; handler = refl }, subst (λ (d : D). Seen d seen) (sym stopped.handler) is)
 
   cut_follows : (mid new : Cursor D) (seen : E) → CutOff Serves mid new → Sure new.handler → Seen mid.handler seen → (left : E) × CutOff Other (seen_as mid seen) (seen_as new left) × Seen new.handler left
   cut_follows mid new seen cut sure is =
       let x = runs_follow mid.handler cut.ticks (cut.item ∷ []) (cut.part ++ cut.rest) new.handler seen cut.runs sure is in
-      (x.0, record { item = cut.item; ticks = cut.ticks; part = cut.part; rest = cut.rest; next = cut.next; told = cut.told; taken = cut.taken; runs = x.1 }, x.2)
+      (x.0, record { item = cut.item; ticks = cut.ticks; part = cut.part; rest = cut.rest; next = cut.next; reported = cut.reported; taken = cut.taken; runs = x.1 }, x.2)
 
   breaks_follow : (e : Failure) (mid new : Cursor D) (seen : E) → BreaksOff Serves e mid new → Sure new.handler → Seen mid.handler seen → BreaksSeen e mid new seen
   breaks_follow failures.Output mid new seen cut sure is = cut_follows mid new seen cut sure is
@@ -108,7 +108,7 @@ module _ {D E : Type 0} (Serves : D → Tick → Message → Answer → D → Ty
   pub run_follows : (old new : Devices D) (result : Result (Unit {0}) Failure) (seen : E) → RunLeads Serves old new result → Sure new.handler → Seen old.handler seen
       → (left : E) × RunLeads Other (with_handler old seen) (with_handler new left) result × Seen new.handler left
   run_follows old new result seen run sure is =
-      let x = streams_follow new.left (cursor run.bytes old.told old.handler old.taken) (cursor [] new.told new.handler new.taken) result seen run.streams sure is in
+      let x = streams_follow new.left (cursor run.bytes old.reported old.handler old.taken) (cursor [] new.reported new.handler new.taken) result seen run.streams sure is in
       (x.0, record { bytes = run.bytes; given = run.given; pieces = run.pieces; streams = x.1 }, x.2)
 
 -- a run, whatever is known of its ticks

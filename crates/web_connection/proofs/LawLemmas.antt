@@ -1,6 +1,6 @@
 -- The messages of a run are those of the whole stream.
 use Rattle.std.proofs.Common.{◌≡◌, ℕ, List, ◌++◌, Option, Some, None, inl, inr, sym, ap, ◌∙◌, subst, append-nil}
-use Rattle.base_devices.specs.Told.{Gives}
+use Rattle.base_devices.specs.Reported.{Gives}
 use Rattle.web_http.specs.Messages.{Messages}
 use Rattle.web_connection.specs.Run.{Item, AreAll}
 

@@ -4,7 +4,7 @@ use Rattle.std.proofs.lemmas.List.{map-append}
 use Rattle.std.specs.Io.KnownBytes.{IsAtEnd}
 use Rattle.base_values.specs.declared.answer.Answer.{Answer}
 use Rattle.base_devices.specs.declared.device.Tick.{Tick}
-use Rattle.base_devices.specs.Told.{Adds, Gives}
+use Rattle.base_devices.specs.Reported.{Adds, Gives}
 use Rattle.base_devices.proofs.ToldLemmas.{Adds-nil, Adds-append, Gives-nil, Gives-append}
 use Rattle.web_http.specs.declared.fault.FrameFault.{FrameFault}
 use Rattle.web_http.specs.Text.{text, fault_text}
@@ -73,7 +73,7 @@ fault_done Serves l l' t d w w' f faults wrote = record {
   ticks = [];
   written = fault_text f;
   all = λ more. (faults more, refl);
-  told = Adds-nil t;
+  reported = Adds-nil t;
   taken = wrote;
   runs = (refl, refl, refl);
 }
@@ -81,12 +81,12 @@ fault_done Serves l l' t d w w' f faults wrote = record {
 pub message_ends : {D : Type 0} (Serves : D → Tick → Message → Answer → D → Type 0) (l l' : List ℕ) (t t' : Option (List Tick)) (d d' : D) (w w' : Option (List ℕ)) (m : Message) (tick : Tick) (answer : Answer) (b : Bool)
     → TakesFirst l m l' → Adds t (tick ∷ []) t' → Serves d tick m answer d' → Adds w (text answer b) w' → b ≡ closes m → b ≡ true
     → Finished Serves (AreAlways l) (cursor l t d w) (cursor l' t' d' w')
-message_ends Serves l l' t t' d d' w w' m tick answer b takes told serves wrote test hit = let ends : closes m ≡ true = sym test ∙ hit in record {
+message_ends Serves l l' t t' d d' w w' m tick answer b takes reported serves wrote test hit = let ends : closes m ≡ true = sym test ∙ hit in record {
   items = Ok m ∷ [];
   ticks = tick ∷ [];
   written = text answer b;
   all = λ more. (l' ++ more, takes more, λ e. refl, λ e. absurd (let both : true ≡ false = sym ends ∙ e in cc));
-  told = told;
+  reported = reported;
   taken = wrote;
   runs = (d', answer, [], serves, ap (text answer) test ∙ sym (append-nil (text answer (closes m))), (refl, refl));
 }
@@ -94,12 +94,12 @@ message_ends Serves l l' t t' d d' w w' m tick answer b takes told serves wrote 
 pub message_goes : {D : Type 0} (Serves : D → Tick → Message → Answer → D → Type 0) (l l' : List ℕ) (t t' : Option (List Tick)) (d d' : D) (w w' : Option (List ℕ)) (m : Message) (tick : Tick) (answer : Answer) (b : Bool)
     → TakesFirst l m l' → Adds t (tick ∷ []) t' → Serves d tick m answer d' → Adds w (text answer b) w' → b ≡ closes m → b ≡ false
     → Progress Serves (cursor l t d w) (cursor l' t' d' w')
-message_goes Serves l l' t t' d d' w w' m tick answer b takes told serves wrote test hit = let goes : closes m ≡ false = sym test ∙ hit in record {
+message_goes Serves l l' t t' d d' w w' m tick answer b takes reported serves wrote test hit = let goes : closes m ≡ false = sym test ∙ hit in record {
   messages = m ∷ [];
   ticks = tick ∷ [];
   written = text answer b;
   chain = (l', takes, goes, refl);
-  told = told;
+  reported = reported;
   taken = wrote;
   runs = (d', answer, [], serves, ap (text answer) test ∙ sym (append-nil (text answer (closes m))), (refl, refl));
 }
@@ -116,7 +116,7 @@ module _ {D : Type 0} (Serves : D → Tick → Message → Answer → D → Type
     ticks = [];
     written = [];
     chain = refl;
-    told = Adds-nil p.told;
+    reported = Adds-nil p.reported;
     taken = Adds-nil p.taken;
     runs = (refl, refl);
   })
@@ -130,7 +130,7 @@ module _ {D : Type 0} (Serves : D → Tick → Message → Answer → D → Type
     ticks = x.ticks ++ y.ticks;
     written = x.written ++ y.written;
     chain = Chain-append p.left q.left r.left x.messages y.messages x.chain y.chain;
-    told = Adds-append p.told q.told r.told x.ticks y.ticks x.told y.told;
+    reported = Adds-append p.reported q.reported r.reported x.ticks y.ticks x.reported y.reported;
     taken = Adds-append p.taken q.taken r.taken x.written y.written x.taken y.taken;
     runs = subst (λ (items : List Item). Runs Serves p.handler (x.ticks ++ y.ticks) items (x.written ++ y.written) r.handler)
         (sym (map_whole x.messages y.messages))
@@ -143,7 +143,7 @@ module _ {D : Type 0} (Serves : D → Tick → Message → Answer → D → Type
     ticks = x.ticks ++ y.ticks;
     written = x.written ++ y.written;
     all = λ more. Chain-messages p.left q.left more x.messages y.items x.chain (y.all more);
-    told = Adds-append p.told q.told r.told x.ticks y.ticks x.told y.told;
+    reported = Adds-append p.reported q.reported r.reported x.ticks y.ticks x.reported y.reported;
     taken = Adds-append p.taken q.taken r.taken x.written y.written x.taken y.taken;
     runs = Runs-append Serves p.handler q.handler r.handler x.ticks y.ticks x.messages y.items x.written y.written x.runs y.runs;
   }
@@ -159,7 +159,7 @@ module _ {D : Type 0} (Serves : D → Tick → Message → Answer → D → Type
     ticks = x.ticks;
     written = x.written;
     chain = Chain-feed b l input x.messages x.chain;
-    told = x.told;
+    reported = x.reported;
     taken = x.taken;
     runs = x.runs;
   }
@@ -175,7 +175,7 @@ module _ {D : Type 0} (Serves : D → Tick → Message → Answer → D → Type
           (Chain-messages p.left q.left [] x.messages [] x.chain (subst HasNone (sym (append-nil q.left)) none)),
       ended,
     );
-    told = x.told;
+    reported = x.reported;
     taken = x.taken;
     runs = x.runs;
   }
@@ -187,7 +187,7 @@ module _ {D : Type 0} (Serves : D → Tick → Message → Answer → D → Type
     ticks = x.ticks;
     written = x.written;
     all = inl x.all;
-    told = x.told;
+    reported = x.reported;
     taken = x.taken;
     runs = x.runs;
   }
@@ -195,7 +195,7 @@ module _ {D : Type 0} (Serves : D → Tick → Message → Answer → D → Type
   -- ---- where a run breaks off
 
   stopped : (l l' : List ℕ) (t t' : Option (List Tick)) (d : D) (w : Option (List ℕ)) → Adds t [] t' → Stopped (cursor l t d w) (cursor l' t' d w)
-  stopped l l' t t' d w told = record { told = told; taken = Adds-nil w; handler = refl }
+  stopped l l' t t' d w reported = record { reported = reported; taken = Adds-nil w; handler = refl }
 
   pub fault_broken : (l l' : List ℕ) (t : Option (List Tick)) (d : D) (w w' : Option (List ℕ)) (f : FrameFault) (part rest : List ℕ)
       → ((more : List ℕ) → Faults (l ++ more) f) → fault_text f ≡ part ++ rest → Adds w part w' → Broken Serves failures.Output (cursor l t d w) (cursor l' t d w')
@@ -208,7 +208,7 @@ module _ {D : Type 0} (Serves : D → Tick → Message → Answer → D → Type
       part = part;
       rest = rest;
       next = subst (λ (s : List ℕ). Faults s f) (append-nil l) (faults []);
-      told = Adds-nil t;
+      reported = Adds-nil t;
       taken = wrote;
       runs = (sym split, refl, refl);
     };
@@ -216,16 +216,16 @@ module _ {D : Type 0} (Serves : D → Tick → Message → Answer → D → Type
 
   pub clock_broken : (l l' : List ℕ) (t t' : Option (List Tick)) (d : D) (w : Option (List ℕ)) (m : Message)
       → TakesFirst l m l' → Adds t [] t' → Broken Serves failures.Clock (cursor l t d w) (cursor l' t' d w)
-  clock_broken l l' t t' d w m takes told = record {
+  clock_broken l l' t t' d w m takes reported = record {
     mid = cursor l t d w;
     before = progress_none _ _ refl;
-    last = (stopped l l' t t' d w told, (m, (l', takes_now l l' m takes)));
+    last = (stopped l l' t t' d w reported, (m, (l', takes_now l l' m takes)));
   }
 
   pub message_broken : (l l' : List ℕ) (t t' : Option (List Tick)) (d d' : D) (w w' : Option (List ℕ)) (m : Message) (tick : Tick) (answer : Answer) (b : Bool) (part rest : List ℕ)
       → TakesFirst l m l' → Adds t (tick ∷ []) t' → Serves d tick m answer d' → text answer b ≡ part ++ rest → Adds w part w' → b ≡ closes m
       → Broken Serves failures.Output (cursor l t d w) (cursor l' t' d' w')
-  message_broken l l' t t' d d' w w' m tick answer b part rest takes told serves split wrote test = record {
+  message_broken l l' t t' d d' w w' m tick answer b part rest takes reported serves split wrote test = record {
     mid = cursor l t d w;
     before = progress_none _ _ refl;
     last = record {
@@ -234,7 +234,7 @@ module _ {D : Type 0} (Serves : D → Tick → Message → Answer → D → Type
       part = part;
       rest = rest;
       next = (l', takes_now l l' m takes);
-      told = told;
+      reported = reported;
       taken = wrote;
       runs = (d', answer, [], serves, sym split ∙ (ap (text answer) test ∙ sym (append-nil (text answer (closes m)))), (refl, refl));
     };
@@ -248,13 +248,13 @@ module _ {D : Type 0} (Serves : D → Tick → Message → Answer → D → Type
 
   -- a reader that fails, or memory for what it gave that is refused
   pub read_broken : (e : Failure) (old new : Devices D) (b l l' : List ℕ) (g : Option (List ℕ)) (turn input input' : ℕ)
-      → Gives old.left b g → InPieces b turn 0 → Progress Serves (cursor b old.told old.handler old.taken) (cursor l new.told new.handler new.taken) → HasNone l
+      → Gives old.left b g → InPieces b turn 0 → Progress Serves (cursor b old.reported old.handler old.taken) (cursor l new.reported new.handler new.taken) → HasNone l
       → new.calls ≡ old.calls + turn + 1 → TakesIn (Err e) l l' g new.left → CountedIn (Err e) input input' → RunLeads Serves old new (Err e)
   read_broken failures.Input old new b l l' g turn input input' gives pieces x none calls read counted = record {
     bytes = b;
     given = subst (λ (s : List ℕ). Gives old.left s new.left) (append-nil b) (Gives-append old.left g new.left b [] gives read.0);
     pieces = record { most = omega (arith, pieces.most, calls); some = omega (arith, pieces.some, calls) };
-    streams = record { mid = cursor l new.told new.handler new.taken; before = x; last = (stopped l [] new.told new.told new.handler new.taken (Adds-nil new.told), none) };
+    streams = record { mid = cursor l new.reported new.handler new.taken; before = x; last = (stopped l [] new.reported new.reported new.handler new.taken (Adds-nil new.reported), none) };
   }
   read_broken failures.Memory old new b l l' g turn input input' gives pieces x none calls (input, read, (some, most), same) counted = record {
     bytes = b ++ input;
@@ -263,8 +263,8 @@ module _ {D : Type 0} (Serves : D → Tick → Message → Answer → D → Type
       most = omega (arith, length-append b input, pieces.most, most, calls);
       some = omega (arith, length-append b input, pieces.some, some, calls);
     };
-    streams = memory_broken _ (l ++ input) [] new.told new.handler new.taken
-        (progress_feed b l input old.told new.told old.handler new.handler old.taken new.taken x) (l, input, refl, none, most);
+    streams = memory_broken _ (l ++ input) [] new.reported new.handler new.taken
+        (progress_feed b l input old.reported new.reported old.handler new.handler old.taken new.taken x) (l, input, refl, none, most);
   }
   read_broken failures.Output old new b l l' g turn input input' gives pieces x none calls read counted = absurd counted
   read_broken failures.Clock old new b l l' g turn input input' gives pieces x none calls read counted = absurd counted
@@ -275,10 +275,10 @@ module _ {D : Type 0} (Serves : D → Tick → Message → Answer → D → Type
   broken_at e p l l' t d w x = record { mid = x.mid; before = x.before; last = last_at e x.mid x.last }
     where
       stays : (q : Cursor D) → Stopped q (cursor l t d w) → Stopped q (cursor l' t d w)
-      stays q y = record { told = y.told; taken = y.taken; handler = y.handler }
+      stays q y = record { reported = y.reported; taken = y.taken; handler = y.handler }
 
       last_at : (f : Failure) (q : Cursor D) → BreaksOff Serves f q (cursor l t d w) → BreaksOff Serves f q (cursor l' t d w)
-      last_at failures.Output q y = record { item = y.item; ticks = y.ticks; part = y.part; rest = y.rest; next = y.next; told = y.told; taken = y.taken; runs = y.runs }
+      last_at failures.Output q y = record { item = y.item; ticks = y.ticks; part = y.part; rest = y.rest; next = y.next; reported = y.reported; taken = y.taken; runs = y.runs }
       last_at failures.Clock q y = (stays q y.0, y.1)
       last_at failures.Input q y = (stays q y.0, y.1)
       last_at failures.Limit q y = (stays q y.0, y.1)
@@ -290,7 +290,7 @@ module _ {D : Type 0} (Serves : D → Tick → Message → Answer → D → Type
     ticks = x.ticks;
     written = x.written;
     all = x.all;
-    told = x.told;
+    reported = x.reported;
     taken = x.taken;
     runs = x.runs;
   }
@@ -303,13 +303,13 @@ module _ {D : Type 0} (Serves : D → Tick → Message → Answer → D → Type
     bytes = [];
     given = Gives-nil p.left;
     pieces = record { most = omega arith; some = omega arith };
-    streams = memory_broken (cursor [] p.told p.handler p.taken) [] [] p.told p.handler p.taken (progress_none _ _ refl) ([], [], refl, none_of_none, omega arith);
+    streams = memory_broken (cursor [] p.reported p.handler p.taken) [] [] p.reported p.handler p.taken (progress_none _ _ refl) ([], [], refl, none_of_none, omega arith);
   }
 
   -- all bytes that came were read in so many calls, and what they lead to is known
   pub run_leads : (old new : Devices D) (result : Result (Unit {0}) Failure) (bytes : List ℕ) (calls : ℕ) → Gives old.left bytes new.left
       → InPieces bytes calls 0 → new.calls ≡ old.calls + calls
-      → Streams Serves new.left (cursor bytes old.told old.handler old.taken) (cursor [] new.told new.handler new.taken) result → RunLeads Serves old new result
+      → Streams Serves new.left (cursor bytes old.reported old.handler old.taken) (cursor [] new.reported new.handler new.taken) result → RunLeads Serves old new result
   run_leads old new result bytes calls given pieces is streams = record {
     bytes = bytes;
     given = given;
@@ -320,7 +320,7 @@ module _ {D : Type 0} (Serves : D → Tick → Message → Answer → D → Type
   -- one more call gave nothing, at the end
   pub run_ends : (old new : Devices D) (u : Unit {0}) (bytes : List ℕ) (g : Option (List ℕ)) (calls : ℕ) → Gives old.left bytes g → Gives g [] new.left
       → InPieces bytes calls 0 → new.calls ≡ old.calls + calls + 1
-      → Finished Serves (AreAll bytes new.left) (cursor bytes old.told old.handler old.taken) (cursor [] new.told new.handler new.taken) → RunLeads Serves old new (Ok u)
+      → Finished Serves (AreAll bytes new.left) (cursor bytes old.reported old.handler old.taken) (cursor [] new.reported new.handler new.taken) → RunLeads Serves old new (Ok u)
   run_ends old new u bytes g calls given last pieces is finished = record {
     bytes = bytes;
     given = subst (λ (s : List ℕ). Gives old.left s new.left) (append-nil bytes) (Gives-append old.left g new.left bytes [] given last);

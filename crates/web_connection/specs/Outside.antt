@@ -13,18 +13,18 @@ use Rattle.web_connection.specs.Run.{Counts, CountedAll, Devices, RunLeads, devi
 -- they are known; and what the three have counted.
 pub record Outside : Type 0 where
   pub left : Option (List ℕ)
-  pub told : Option (List Tick)
+  pub reported : Option (List Tick)
   pub taken : Option (List ℕ)
   pub counts : Counts
 
 -- this reader, this clock and this writer
 abbrev pub outside : {R T W : Type 0} → source.Ghosts R → clock.Ghosts T → drain.Ghosts W → R → T → W → Outside
 outside r t w reader ticks writer =
-    record { left = r.left reader; told = t.told ticks; taken = w.taken writer; counts = device_counts r t w reader ticks writer }
+    record { left = r.left reader; reported = t.reported ticks; taken = w.taken writer; counts = device_counts r t w reader ticks writer }
 
 -- the devices of reader, clock and writer, with a handler among them
 abbrev pub devices_of : {D : Type 0} → D → Outside → Devices D
-devices_of handler now = record { left = now.left; calls = now.counts.calls; told = now.told; handler = handler; taken = now.taken }
+devices_of handler now = record { left = now.left; calls = now.counts.calls; reported = now.reported; handler = handler; taken = now.taken }
 
 -- A run over a stream, from one handler to another: what was read, told and written is of one run over the bytes that came; how it ended is
 -- what a device has counted; and the reader was called so often at most.

@@ -6,7 +6,7 @@ use Rattle.base_devices.specs.declared.device.Tick.{Tick}
 use Rattle.base_devices.specs.declared.device.Source as source
 use Rattle.base_devices.specs.declared.device.Ticks as clock
 use Rattle.base_devices.specs.declared.device.Drain as drain
-use Rattle.base_devices.specs.Told.{Adds, Gives}
+use Rattle.base_devices.specs.Reported.{Adds, Gives}
 use Rattle.web_http.specs.declared.fault.FrameFault.{FrameFault}
 use Rattle.web_http.specs.Text.{text, fault_text}
 use Rattle.web_http.specs.Messages.{Message, Takes, Faults, HasNone, closes, Messages, whole}
@@ -57,13 +57,13 @@ AreAll bytes after items = AreAlways bytes items ⊎ (Messages bytes items × Is
 -- where a run stands: the bytes not yet taken, the ticks that were told, the handler, and what was written
 pub record Cursor (D : Type 0) : Type 0 where
   pub left : List ℕ
-  pub told : Option (List Tick)
+  pub reported : Option (List Tick)
   pub handler : D
   pub taken : Option (List ℕ)
 
 -- the cursor with these bytes left, these ticks, this handler and what was written
 abbrev pub cursor : {D : Type 0} → List ℕ → Option (List Tick) → D → Option (List ℕ) → Cursor D
-cursor left told handler taken = record { left = left; told = told; handler = handler; taken = taken }
+cursor left reported handler taken = record { left = left; reported = reported; handler = handler; taken = taken }
 
 -- the messages at the front were answered, and none of them ends the connection
 pub record Progress {D : Type 0} (Serves : D → Tick → Message → Answer → D → Type 0) (old new : Cursor D) : Type 0 where
@@ -71,7 +71,7 @@ pub record Progress {D : Type 0} (Serves : D → Tick → Message → Answer →
   pub ticks : List Tick
   pub written : List ℕ
   pub chain : Chain old.left messages new.left
-  pub told : Adds old.told ticks new.told
+  pub reported : Adds old.reported ticks new.reported
   pub taken : Adds old.taken written new.taken
   pub runs : Runs Serves old.handler ticks (map whole messages) written new.handler
 
@@ -81,7 +81,7 @@ pub record Finished {D : Type 0} (Serves : D → Tick → Message → Answer →
   pub ticks : List Tick
   pub written : List ℕ
   pub all : IsOf items
-  pub told : Adds old.told ticks new.told
+  pub reported : Adds old.reported ticks new.reported
   pub taken : Adds old.taken written new.taken
   pub runs : Runs Serves old.handler ticks items written new.handler
 
@@ -92,7 +92,7 @@ pub record CutOff {D : Type 0} (Serves : D → Tick → Message → Answer → D
   pub part : List ℕ
   pub rest : List ℕ
   pub next : IsNext old.left item
-  pub told : Adds old.told ticks new.told
+  pub reported : Adds old.reported ticks new.reported
   pub taken : Adds old.taken part new.taken
   pub runs : Runs Serves old.handler ticks (item ∷ []) (part ++ rest) new.handler
 
@@ -106,7 +106,7 @@ LosesRead bytes = (waiting : List ℕ) × (input : List ℕ) × (bytes ≡ waiti
 
 -- nothing more was told or written, and the handler is as it was
 pub record Stopped {D : Type 0} (old new : Cursor D) : Type 0 where
-  pub told : Adds old.told [] new.told
+  pub reported : Adds old.reported [] new.reported
   pub taken : Adds old.taken [] new.taken
   pub handler : new.handler ≡ old.handler
 
@@ -151,18 +151,18 @@ Streams Serves after old new (Err e) = Broken Serves e old new
 pub record Devices (D : Type 0) : Type 0 where
   pub left : Option (List ℕ)
   pub calls : ℕ
-  pub told : Option (List Tick)
+  pub reported : Option (List Tick)
   pub handler : D
   pub taken : Option (List ℕ)
 
 -- where this reader, this clock, this handler and this writer stand
 abbrev pub devices_at : {R T D W : Type 0} → source.Ghosts R → clock.Ghosts T → drain.Ghosts W → R → T → D → W → Devices D
 devices_at r t w reader ticks handler writer =
-    record { left = r.left reader; calls = r.calls reader; told = t.told ticks; handler = handler; taken = w.taken writer }
+    record { left = r.left reader; calls = r.calls reader; reported = t.reported ticks; handler = handler; taken = w.taken writer }
 
 -- the devices with another handler among them
 abbrev pub with_handler : {D E : Type 0} → Devices D → E → Devices E
-with_handler devices handler = record { left = devices.left; calls = devices.calls; told = devices.told; handler = handler; taken = devices.taken }
+with_handler devices handler = record { left = devices.left; calls = devices.calls; reported = devices.reported; handler = handler; taken = devices.taken }
 
 -- how many of the calls of the reader gave nothing: the last one, where the run comes to the end or the reader fails
 abbrev pub idle_reads : Result (Unit {0}) Failure → ℕ
@@ -180,7 +180,7 @@ pub record RunLeads {D : Type 0} (Serves : D → Tick → Message → Answer →
   pub bytes : List ℕ
   pub given : Gives old.left bytes new.left
   pub pieces : InPieces bytes (new.calls - old.calls) (idle_reads result)
-  pub streams : Streams Serves new.left (cursor bytes old.told old.handler old.taken) (cursor [] new.told new.handler new.taken) result
+  pub streams : Streams Serves new.left (cursor bytes old.reported old.handler old.taken) (cursor [] new.reported new.handler new.taken) result
 
 -- a failure was counted where it is the clock's or the writer's, and no other one
 abbrev pub Counted : {A : Type 0} → Result A Failure → ℕ → ℕ → ℕ → ℕ → Type 0

@@ -1,7 +1,7 @@
 //! Laws of every run over a stream.
 
 ghost use Rattle.std.specs.Prelude.{ℕ, List, Option, Some, Err};
-ghost use Rattle.base_devices.specs.Told.{Gives};
+ghost use Rattle.base_devices.specs.Reported.{Gives};
 ghost use Rattle.web_http.specs.Messages.{Messages};
 ghost use Rattle.web_connection.specs.Failures.{failure_number};
 ghost use Rattle.web_connection.specs.Run.{Item, AreAll, Counts, CountedAll, NumberCounted};

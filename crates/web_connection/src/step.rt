@@ -18,8 +18,8 @@ pub fn step<T: Ticks, D: Handler, W: Drain>(
     writer: &mut W,
 ) -> Result<Step, Failure>
     ensures leads { Steps (AtTick T.reads D.serves)
-        (cursor frames.old.left (T.told ticks.old) handler.old (W.taken writer.old))
-        (cursor frames.new.left (T.told ticks.new) handler.new (W.taken writer.new)) result }
+        (cursor frames.old.left (T.reported ticks.old) handler.old (W.taken writer.old))
+        (cursor frames.new.left (T.reported ticks.new) handler.new (W.taken writer.new)) result }
     ensures counted { Counted result (T.failures ticks.old) (T.failures ticks.new)
         (W.failures writer.old) (W.failures writer.new) }
 {
@@ -55,8 +55,8 @@ pub fn answer_ready<T: Ticks, D: Handler, W: Drain>(
     writer: &mut W,
 ) -> Result<bool, Failure>
     ensures leads { ServesReady (AtTick T.reads D.serves)
-        (cursor frames.old.left (T.told ticks.old) handler.old (W.taken writer.old))
-        (cursor frames.new.left (T.told ticks.new) handler.new (W.taken writer.new)) result }
+        (cursor frames.old.left (T.reported ticks.old) handler.old (W.taken writer.old))
+        (cursor frames.new.left (T.reported ticks.new) handler.new (W.taken writer.new)) result }
     ensures counted { Counted result (T.failures ticks.old) (T.failures ticks.new)
         (W.failures writer.old) (W.failures writer.new) }
 {

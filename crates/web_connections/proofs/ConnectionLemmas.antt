@@ -76,7 +76,7 @@ module _ {D E : Type 0} (Serves : D → Tick → Message → Answer → D → Ty
 
   -- a handler that follows another one follows it over all conversations, which stay as they are
   pub connections_follow : (came : ℕ) (from to : Between D) (all : History) (seen : E) → Connections Serves came from to all → Sure to.handler → Seen from.handler seen
-      → (left : E) × Connections Other came (between from.told seen) (between to.told left) all × Seen to.handler left
+      → (left : E) × Connections Other came (between from.reported seen) (between to.reported left) all × Seen to.handler left
   connections_follow came from to all seen connections sure is =
       let x = acts_follow from.handler to.handler (acts_of all.heard) seen connections.acted sure is in
-      (x.0, record { acted = x.1; told = connections.told; are = connections.are; firsts = connections.firsts; lasts = connections.lasts; exchanges = connections.exchanges }, x.2)
+      (x.0, record { acted = x.1; reported = connections.reported; are = connections.are; firsts = connections.firsts; lasts = connections.lasts; exchanges = connections.exchanges }, x.2)

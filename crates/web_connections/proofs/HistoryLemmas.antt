@@ -4,7 +4,7 @@ use Rattle.std.proofs.lemmas.Bool.{cases_eq, cases_lt}
 use Rattle.std.proofs.lemmas.List.{get_or_append_left, get_or_push, get_or_past, get_or-replicate, length-set, length_push, length-replicate, get_or-set_same, get_or-set_other, set_past, set-get_or}
 use Rattle.base_values.specs.declared.answer.Answer.{Answer}
 use Rattle.base_devices.specs.declared.device.Tick.{Tick}
-use Rattle.base_devices.specs.Told.{Adds}
+use Rattle.base_devices.specs.Reported.{Adds}
 use Rattle.base_devices.proofs.ToldLemmas.{Adds-nil, Adds-append}
 use Rattle.web_http.specs.Messages.{Message}
 use Rattle.web_sockets.specs.Accepting.{Begun}
@@ -192,7 +192,7 @@ module _ {D : Type 0} (Serves : D → Tick → Message → Answer → D → Type
   -- nobody came yet
   pub history_opens : (from : Between D) (count : ℕ) → Serving Serves from from (callers 0 (replicate count None)) (history [] [] [])
   history_opens from count = record {
-    connections = record { acted = refl; told = Adds-nil from.told; are = tt; firsts = refl; lasts = refl; exchanges = λ n lt. absurd (omega (arith, lt)) };
+    connections = record { acted = refl; reported = Adds-nil from.reported; are = tt; firsts = refl; lasts = refl; exchanges = λ n lt. absurd (omega (arith, lt)) };
     in_slots = record {
       here = λ i c is. absurd (none_here (at_slot i opened) c (free i) is);
       apart = λ i j c d is also same. absurd (none_here (at_slot i opened) c (free i) is);
@@ -214,7 +214,7 @@ module _ {D : Type 0} (Serves : D → Tick → Message → Answer → D → Type
       → let state = connection_begun coming gone in Connections Serves (came + 1) from to (history (all.firsts ++ state ∷ []) (all.lasts ++ state ∷ []) all.heard)
   connections_come came from to all coming gone connections = record {
     acted = connections.acted;
-    told = connections.told;
+    reported = connections.reported;
     are = are_more came (came + 1) all.heard (omega arith) connections.are;
     firsts = length_push all.firsts state ∙ ap (λ (n : ℕ). n + 1) connections.firsts;
     lasts = length_push all.lasts state ∙ ap (λ (n : ℕ). n + 1) connections.lasts;
@@ -244,9 +244,9 @@ module _ {D : Type 0} (Serves : D → Tick → Message → Answer → D → Type
   connections_turn came from mid to all number state lt connections turn = record {
     acted = subst (λ (os : List Act). Acts Serves from.handler os to.handler) (sym whole)
         (Acts-append Serves from.handler mid.handler to.handler (acts_of all.heard) turn.acts connections.acted turn.acted);
-    told = subst (λ (os : List Act). Adds from.told (ticks os) to.told) (sym whole)
-        (subst (λ (ts : List Tick). Adds from.told ts to.told) (sym (ticks-append (acts_of all.heard) turn.acts))
-        (Adds-append from.told mid.told to.told (ticks (acts_of all.heard)) (ticks turn.acts) connections.told turn.told));
+    reported = subst (λ (os : List Act). Adds from.reported (ticks os) to.reported) (sym whole)
+        (subst (λ (ts : List Tick). Adds from.reported ts to.reported) (sym (ticks-append (acts_of all.heard) turn.acts))
+        (Adds-append from.reported mid.reported to.reported (ticks (acts_of all.heard)) (ticks turn.acts) connections.reported turn.reported));
     are = are-append came all.heard more connections.are (are_by came number turn.acts lt);
     firsts = connections.firsts;
     lasts = length-set all.lasts number state ∙ connections.lasts;

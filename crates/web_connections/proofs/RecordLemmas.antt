@@ -3,7 +3,7 @@ use Rattle.std.proofs.Common.{◌≡◌, ℕ, List, [], ◌∷◌, ◌++◌, map
 use Rattle.std.proofs.lemmas.List.{map-append}
 use Rattle.base_values.specs.declared.answer.Answer.{Answer}
 use Rattle.base_devices.specs.declared.device.Tick.{Tick}
-use Rattle.base_devices.specs.Told.{Adds}
+use Rattle.base_devices.specs.Reported.{Adds}
 use Rattle.base_devices.proofs.ToldLemmas.{Adds-append}
 use Rattle.web_http.specs.Messages.{Message, whole}
 use Rattle.web_connection.specs.declared.failure.Failure.{Failure}
@@ -60,7 +60,7 @@ module _ {D : Type 0} (Serves : D → Tick → Message → Answer → D → Type
   -- a relation of two slots is one of the acts between them, and the same relation at the recording handler
   abbrev pub Recorded : Cursor D → Cursor D → List ℕ → List ℕ → (Cursor (List Act) → Cursor (List Act) → Type 0) → Type 0
   Recorded p q b a Rel =
-      (acts : List Act) × Acts Serves p.handler acts q.handler × Adds p.told (ticks acts) q.told
+      (acts : List Act) × Acts Serves p.handler acts q.handler × Adds p.reported (ticks acts) q.reported
       × ((own : List Act) (text : List ℕ) → Rel (acts_recorded p.left own (text ++ b)) (acts_recorded q.left (own ++ acts) (text ++ a)))
 
   progress_recorded : (p q : Cursor D) (b a : List ℕ) → p.taken ≡ Some b → q.taken ≡ Some a → Progress Serves p q → Recorded p q b a (Progress Records)
@@ -69,13 +69,13 @@ module _ {D : Type 0} (Serves : D → Tick → Message → Answer → D → Type
       let taken = subst₂ (λ (s t : Option (List ℕ)). Adds s x.written t) is-b is-a x.taken in (
         r.0,
         r.1,
-        subst (λ (ts : List Tick). Adds p.told ts q.told) r.2 x.told,
+        subst (λ (ts : List Tick). Adds p.reported ts q.reported) r.2 x.reported,
         λ own text. record {
           messages = x.messages;
           ticks = x.ticks;
           written = x.written;
           chain = x.chain;
-          told = told_own own r.0 x.ticks r.2;
+          reported = told_own own r.0 x.ticks r.2;
           taken = added_on text b x.written a taken;
           runs = r.3 own;
         },
@@ -87,13 +87,13 @@ module _ {D : Type 0} (Serves : D → Tick → Message → Answer → D → Type
       let taken = subst₂ (λ (s t : Option (List ℕ)). Adds s x.written t) is-b is-a x.taken in (
         r.0,
         r.1,
-        subst (λ (ts : List Tick). Adds p.told ts q.told) r.2 x.told,
+        subst (λ (ts : List Tick). Adds p.reported ts q.reported) r.2 x.reported,
         λ own text. record {
           items = x.items;
           ticks = x.ticks;
           written = x.written;
           all = x.all;
-          told = told_own own r.0 x.ticks r.2;
+          reported = told_own own r.0 x.ticks r.2;
           taken = added_on text b x.written a taken;
           runs = r.3 own;
         },
@@ -105,14 +105,14 @@ module _ {D : Type 0} (Serves : D → Tick → Message → Answer → D → Type
       let taken = subst₂ (λ (s t : Option (List ℕ)). Adds s x.part t) is-b is-a x.taken in (
         r.0,
         r.1,
-        subst (λ (ts : List Tick). Adds p.told ts q.told) r.2 x.told,
+        subst (λ (ts : List Tick). Adds p.reported ts q.reported) r.2 x.reported,
         λ own text. record {
           item = x.item;
           ticks = x.ticks;
           part = x.part;
           rest = x.rest;
           next = x.next;
-          told = told_own own r.0 x.ticks r.2;
+          reported = told_own own r.0 x.ticks r.2;
           taken = added_on text b x.part a taken;
           runs = r.3 own;
         },
@@ -123,8 +123,8 @@ module _ {D : Type 0} (Serves : D → Tick → Message → Answer → D → Type
       let taken = subst₂ (λ (s t : Option (List ℕ)). Adds s [] t) is-b is-a x.taken in (
         [],
         x.handler,
-        x.told,
-        λ own text. record { told = told_own own [] [] refl; taken = added_on text b [] a taken; handler = append-nil own },
+        x.reported,
+        λ own text. record { reported = told_own own [] [] refl; taken = added_on text b [] a taken; handler = append-nil own },
       )
 
   breaks_recorded : (e : Failure) (p q : Cursor D) (b a : List ℕ) → p.taken ≡ Some b → q.taken ≡ Some a → BreaksOff Serves e p q → Recorded p q b a (BreaksOff Records e)
@@ -143,7 +143,7 @@ module _ {D : Type 0} (Serves : D → Tick → Message → Answer → D → Type
       let s = breaks_recorded e mid q (b ++ w) a is-m is-a x.last in (
         r.0 ++ s.0,
         Acts-append p.handler mid.handler q.handler r.0 s.0 r.1 s.1,
-        subst (λ (ts : List Tick). Adds p.told ts q.told) (sym (ticks-append r.0 s.0)) (Adds-append p.told mid.told q.told (ticks r.0) (ticks s.0) r.2 s.2),
+        subst (λ (ts : List Tick). Adds p.reported ts q.reported) (sym (ticks-append r.0 s.0)) (Adds-append p.reported mid.reported q.reported (ticks r.0) (ticks s.0) r.2 s.2),
         λ own text. record {
           mid = acts_recorded mid.left (own ++ r.0) (text ++ (b ++ w));
           before = r.3 own text;

@@ -3,7 +3,7 @@ use Rattle.std.proofs.Common.{◌≡◌, inl, inr, ℕ, true, false, List, [], �
 use Rattle.std.proofs.lemmas.List.{drop_all, drop_more}
 use Rattle.base_values.specs.declared.answer.Answer.{Answer}
 use Rattle.base_devices.specs.declared.device.Tick.{Tick}
-use Rattle.base_devices.specs.Told.{Adds, Gives}
+use Rattle.base_devices.specs.Reported.{Adds, Gives}
 use Rattle.base_devices.proofs.ToldLemmas.{Adds-nil, Adds-append, Gives-nil, Gives-append}
 use Rattle.web_http.specs.Messages.{HasNone, Message, Messages, whole}
 use Rattle.web_http.proofs.FirstLemmas.{no_head}
@@ -28,7 +28,7 @@ module _ {D : Type 0} (Serves : D → Tick → Message → Answer → D → Type
     ticks = x.ticks ++ y.ticks;
     written = x.written ++ y.written;
     all = on y.all;
-    told = Adds-append p.told q.told r.told x.ticks y.ticks x.told y.told;
+    reported = Adds-append p.reported q.reported r.reported x.ticks y.ticks x.reported y.reported;
     taken = Adds-append p.taken q.taken r.taken x.written y.written x.taken y.taken;
     runs = Runs-append Serves p.handler q.handler r.handler x.ticks y.ticks x.messages y.items x.written y.written x.runs y.runs;
   }
@@ -148,7 +148,7 @@ module _ {D : Type 0} (Serves : D → Tick → Message → Answer → D → Type
   turn_moves from to old new same moves = subst (λ (b : Between D). Turn Serves from b old new) (sym same) (record {
     acts = [];
     acted = refl;
-    told = Adds-nil from.told;
+    reported = Adds-nil from.reported;
     exchanges = λ first own connection. subst (λ (os : List Act). Exchanges first os new) (sym (append-nil own)) (moves first own connection);
   })
 
@@ -156,19 +156,19 @@ module _ {D : Type 0} (Serves : D → Tick → Message → Answer → D → Type
   turn_more from mid to a b c x y = record {
     acts = x.acts ++ y.acts;
     acted = Acts-append Serves from.handler mid.handler to.handler x.acts y.acts x.acted y.acted;
-    told = subst (λ (ts : List Tick). Adds from.told ts to.told) (sym (ticks-append x.acts y.acts)) (Adds-append from.told mid.told to.told (ticks x.acts) (ticks y.acts) x.told y.told);
+    reported = subst (λ (ts : List Tick). Adds from.reported ts to.reported) (sym (ticks-append x.acts y.acts)) (Adds-append from.reported mid.reported to.reported (ticks x.acts) (ticks y.acts) x.reported y.reported);
     exchanges = λ first own connection. subst (λ (os : List Act). Exchanges first os c) (append_assoc own x.acts y.acts) (y.exchanges first (own ++ x.acts) (x.exchanges first own connection));
   }
 
   -- a message was answered, or none was there
   pub turn_reply : (from to : Between D) (old new : ConnectionState) → old.phase ≡ phases.Goes → old.unsent ≡ [] → Replies Serves from to [] new.unsent old new → Turn Serves from to old new
   turn_reply from to old new was none replies =
-      let p = cursor old.left from.told from.handler (Some []) in
-      let q = cursor new.left to.told to.handler (Some new.unsent) in
+      let p = cursor old.left from.reported from.handler (Some []) in
+      let q = cursor new.left to.reported to.handler (Some new.unsent) in
       let r = went_recorded Serves new.coming new.phase p q [] new.unsent refl refl replies.went in record {
         acts = r.0;
         acted = r.1;
-        told = r.2;
+        reported = r.2;
         exchanges = λ first own connection.
             let before = subst (λ (s : Phase). Went Records old.coming s (acts_recorded connection.bytes [] []) (acts_recorded old.left own connection.text)) was connection.went in
             let all : connection.text ≡ connection.sent = connection.is ∙ (ap (λ (u : List ℕ). connection.sent ++ u) none ∙ append-nil connection.sent) in record {

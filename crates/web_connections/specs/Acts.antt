@@ -29,13 +29,13 @@ Records old t m answer new = new ≡ old ++ record { tick = t; message = m; answ
 
 -- how far a server is: the ticks that it was given, where that is known, and its handler
 pub record Between (D : Type 0) : Type 0 where
-  pub told : Option (List Tick)
+  pub reported : Option (List Tick)
   pub handler : D
 
 -- a handler, and the ticks that the server was given till then, where that is known
 abbrev pub between : {D : Type 0} → Option (List Tick) → D → Between D
-between told handler = record { told = told; handler = handler }
+between reported handler = record { reported = reported; handler = handler }
 
 -- the ticks that the server was given till then, with another handler
 abbrev pub seen_at : {D E : Type 0} → Between D → E → Between E
-seen_at slot handler = between slot.told handler
+seen_at slot handler = between slot.reported handler

@@ -2,7 +2,7 @@
 use Rattle.std.specs.Prelude.{◌≡◌, ⊤, ◌⊎◌, Bool, true, false, ℕ, ◌==◌, ◌+◌, ◌<◌, ◌≤◌, List, [], ◌∷◌, ◌++◌, length, map, Option, Some, None, if◌then◌else◌, slice_index_or, slice_set}
 use Rattle.base_values.specs.declared.answer.Answer.{Answer}
 use Rattle.base_devices.specs.declared.device.Tick.{Tick}
-use Rattle.base_devices.specs.Told.{Adds}
+use Rattle.base_devices.specs.Reported.{Adds}
 use Rattle.web_http.specs.Messages.{Message}
 use Rattle.web_http.specs.Framed.{Framed}
 use Rattle.web_sockets.specs.Accepting.{Begun}
@@ -173,7 +173,7 @@ history firsts lasts heard = record { firsts = firsts; lasts = lasts; heard = he
 -- sent is the front of their texts.
 pub record Connections {D : Type 0} (Serves : D → Tick → Message → Answer → D → Type 0) (came : ℕ) (from to : Between D) (all : History) : Type 0 where
   pub acted : Acts Serves from.handler (acts_of all.heard) to.handler
-  pub told : Adds from.told (ticks (acts_of all.heard)) to.told
+  pub reported : Adds from.reported (ticks (acts_of all.heard)) to.reported
   pub are : AreOf came all.heard
   pub firsts : length all.firsts ≡ came
   pub lasts : length all.lasts ≡ came

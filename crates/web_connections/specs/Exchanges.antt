@@ -3,7 +3,7 @@ use Rattle.std.specs.Prelude.{◌≡◌, ℕ, ◌<◌, ◌≤◌, List, [], ◌�
 use Rattle.std.specs.Io.KnownBytes.{IsAtEnd}
 use Rattle.base_values.specs.declared.answer.Answer.{Answer}
 use Rattle.base_devices.specs.declared.device.Tick.{Tick}
-use Rattle.base_devices.specs.Told.{Adds, Gives}
+use Rattle.base_devices.specs.Reported.{Adds, Gives}
 use Rattle.web_http.specs.Messages.{Message, HasNone}
 use Rattle.web_connection.specs.declared.failure.Failure.{Failure}
 use Rattle.web_connection.specs.Run.{AreAll, Broken, Cursor, Finished, Progress, cursor}
@@ -64,7 +64,7 @@ pub record Exchanges (first : ConnectionState) (own : List Act) (now : Connectio
 -- Where another message may be there, the first one that is whole is answered at a handler, whose page has this text before and that one behind; nothing
 -- is read or sent meanwhile. Where it goes on it took some of the bytes.
 pub record Replies {D : Type 0} (Serves : D → Tick → Message → Answer → D → Type 0) (from to : Between D) (before behind : List ℕ) (old new : ConnectionState) : Type 0 where
-  pub went : Went Serves new.coming new.phase (cursor old.left from.told from.handler (Some before)) (cursor new.left to.told to.handler (Some behind))
+  pub went : Went Serves new.coming new.phase (cursor old.left from.reported from.handler (Some before)) (cursor new.left to.reported to.handler (Some behind))
   pub coming : new.coming ≡ old.coming
   pub gone : new.gone ≡ old.gone
   pub takes : new.phase ≡ phases.Goes → length new.left < length old.left
@@ -77,7 +77,7 @@ Moves old new = (first : ConnectionState) (own : List Act) → Exchanges first o
 pub record Turn {D : Type 0} (Serves : D → Tick → Message → Answer → D → Type 0) (from to : Between D) (old new : ConnectionState) : Type 0 where
   pub acts : List Act
   pub acted : Acts Serves from.handler acts to.handler
-  pub told : Adds from.told (ticks acts) to.told
+  pub reported : Adds from.reported (ticks acts) to.reported
   pub exchanges : (first : ConnectionState) (own : List Act) → Exchanges first own old → Exchanges first (own ++ acts) new
 
 -- Where another message may be there, and nothing is unsent, a turn takes one; or the conversation doesn't go on, but waits, ends or breaks off.

@@ -26,7 +26,7 @@ ports_at r w reader writer =
 
 -- the devices of a feed: reader and writer with the ticks that were told and the handler of the shop between them
 abbrev pub devices : {D : Type 0} → Ports → List Tick → D → Devices D
-devices ports told house = record { left = ports.left; calls = ports.calls; told = Some told; handler = house; taken = ports.taken }
+devices ports reported house = record { left = ports.left; calls = ports.calls; reported = Some reported; handler = house; taken = ports.taken }
 
 -- what they have counted, and how many ticks failed
 abbrev pub counts : Ports → ℕ → Counts

@@ -39,7 +39,7 @@ fn feed_with<P: Pace, E: Ledger, T: Tables + Drop, B: Dues + Drop, R: Source, W:
     let mut ticks = FeedTicks::<P, E> {
         from,
         step,
-        told: 0,
+        reported: 0,
         failures: Steps::<E>::new(blank),
         pace: PhantomData,
     };

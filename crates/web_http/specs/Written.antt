@@ -1,6 +1,6 @@
 -- What a call that writes a text leads to.
 use Rattle.std.specs.Prelude.{◌≡◌, ℕ, ◌+◌, List, ◌++◌, Option, Result, Ok, Err}
-use Rattle.base_devices.specs.Told.{Adds}
+use Rattle.base_devices.specs.Reported.{Adds}
 use Rattle.base_devices.specs.declared.device.Refused.{Refused}
 use Rattle.base_devices.specs.declared.device.Drain.{Ghosts}
 

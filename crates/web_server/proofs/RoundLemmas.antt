@@ -3,7 +3,7 @@ use Rattle.std.proofs.Common.{◌≡◌, inl, inr, ℕ, ◌+◌, ◌≤◌, List
 use Rattle.base_values.specs.declared.answer.Answer.{Answer}
 use Rattle.base_devices.specs.declared.device.Tick.{Tick}
 use Rattle.web_http.specs.Messages.{Message}
-use Rattle.base_devices.specs.Told.{Adds}
+use Rattle.base_devices.specs.Reported.{Adds}
 use Rattle.base_devices.proofs.ToldLemmas.{Adds-append, Adds-nil}
 use Rattle.web_sockets.specs.Accepting.{Begun}
 use Rattle.web_connections.specs.declared.turns.Next.{Next}
@@ -62,12 +62,12 @@ cleared_comes a b c one x accepts = rearranged_more [] (one ∷ []) a b c x.conn
 
 pub reassigns_of : (old new : Callers) (before left : ℕ) (shown seen : Option (List Begun)) (came : List Begun) → Adds shown came seen → Rearranged came old new → new.came + left ≤ old.came + before
     → Reassigns old new before left shown seen
-reassigns_of old new before left shown seen came told connections count = record { came = came; told = told; connections = connections; count = count }
+reassigns_of old new before left shown seen came reported connections count = record { came = came; reported = reported; connections = connections; count = count }
 
 pub reassigns_clears : (old new : Callers) (before left : ℕ) (shown seen : Option (List Begun)) → Clears old new → left ≤ before → seen ≡ shown → Reassigns old new before left shown seen
 reassigns_clears old new before left shown seen x fewer same = record {
   came = [];
-  told = subst (λ (s : Option (List Begun)). Adds shown [] s) (sym same) (Adds-nil shown);
+  reported = subst (λ (s : Option (List Begun)). Adds shown [] s) (sym same) (Adds-nil shown);
   connections = x.connections;
   count = omega (arith, x.came, fewer);
 }
@@ -75,7 +75,7 @@ reassigns_clears old new before left shown seen x fewer same = record {
 pub reassigns_more : (a b c : Callers) (l m n : ℕ) (r s t : Option (List Begun)) → Reassigns a b l m r s → Reassigns b c m n s t → Reassigns a c l n r t
 reassigns_more a b c l m n r s t x y = record {
   came = x.came ++ y.came;
-  told = Adds-append r s t x.came y.came x.told y.told;
+  reported = Adds-append r s t x.came y.came x.reported y.reported;
   connections = rearranged_more x.came y.came a b c x.connections y.connections;
   count = omega (arith, x.count, y.count);
 }
@@ -105,7 +105,7 @@ module _ {D : Type 0} (Serves : D → Tick → Message → Answer → D → Type
       → Hosts Serves from to old new before left shown seen
   hosts_none from to old new before left shown seen same is stays unseen = record {
     came = [];
-    told = subst (λ (s : Option (List Begun)). Adds shown [] s) (sym unseen) (Adds-nil shown);
+    reported = subst (λ (s : Option (List Begun)). Adds shown [] s) (sym unseen) (Adds-nil shown);
     connections = happened_none from to old new same is;
     count = omega (arith, ap (λ (c : Callers). c.came) is, stays);
   }
@@ -115,7 +115,7 @@ module _ {D : Type 0} (Serves : D → Tick → Message → Answer → D → Type
       let came : new.came ≡ old.came = ap (λ (c : Callers). c.came) turns.2 in
       record {
         came = [];
-        told = Adds-nil shown;
+        reported = Adds-nil shown;
         connections = record { order = nexts.Turn slot ∷ []; all = (to, new, [], [], refl, (refl, turns), (refl, refl, refl)) };
         count = omega (arith, came);
       }
@@ -124,7 +124,7 @@ module _ {D : Type 0} (Serves : D → Tick → Message → Answer → D → Type
       → Hosts Serves from to old new before left shown seen
   hosts_of from to old new before left shown seen same x = record {
     came = x.came;
-    told = x.told;
+    reported = x.reported;
     connections = record { order = x.connections.order; all = subst (λ (at : Between D). DoesAll Serves from at x.came old new x.connections.order) (sym same) (rearranged_does from x.came old new x.connections.order x.connections.all) };
     count = x.count;
   }
@@ -133,7 +133,7 @@ module _ {D : Type 0} (Serves : D → Tick → Message → Answer → D → Type
       → Hosts Serves from to a c l n r t
   hosts_more from mid to a b c l m n r s t x y = record {
     came = x.came ++ y.came;
-    told = Adds-append r s t x.came y.came x.told y.told;
+    reported = Adds-append r s t x.came y.came x.reported y.reported;
     connections = record { order = x.connections.order ++ y.connections.order; all = does_more from mid to x.came y.came a b c x.connections.order y.connections.order x.connections.all y.connections.all };
     count = omega (arith, x.count, y.count);
   }
@@ -143,7 +143,7 @@ module _ {D : Type 0} (Serves : D → Tick → Message → Answer → D → Type
       → Hosts Serves from to (callers 0 (replicate count None)) now before left shown seen → Served Serves most from to shown seen
   served_by from to count most before left now shown seen within x =
       let own = own_history Serves from to x.came count now x.connections.order x.connections.all in
-      record { came = now.came; within = within; all = own.0; connections = own.1; begun = x.came; told = x.told; among = own.2 }
+      record { came = now.came; within = within; all = own.0; connections = own.1; begun = x.came; reported = x.reported; among = own.2 }
 
   -- nobody came
   pub served_none : (from to : Between D) (most : ℕ) (shown seen : Option (List Begun)) → to ≡ from → seen ≡ shown → Served Serves most from to shown seen

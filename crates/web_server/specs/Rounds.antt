@@ -2,7 +2,7 @@
 use Rattle.std.specs.Prelude.{◌≡◌, ◌+◌, ◌≤◌, ◌⊎◌, ⊤, ℕ, zero, suc, List, [], ◌∷◌, ◌++◌, None, Option, Result, Ok, Err}
 use Rattle.base_values.specs.declared.answer.Answer.{Answer}
 use Rattle.base_devices.specs.declared.device.Tick.{Tick}
-use Rattle.base_devices.specs.Told.{Adds}
+use Rattle.base_devices.specs.Reported.{Adds}
 use Rattle.web_http.specs.Messages.{Message}
 use Rattle.web_connection.specs.declared.failure.Failure.TheVariants as failures
 use Rattle.web_cli.specs.declared.fault.RunFault.{RunFault}
@@ -40,7 +40,7 @@ pub record Clears (old new : Callers) : Type 0 where
 -- were to be accepted still.
 pub record Reassigns (old new : Callers) (before left : ℕ) (shown seen : Option (List Begun)) : Type 0 where
   pub came : List Begun
-  pub told : Adds shown came seen
+  pub reported : Adds shown came seen
   pub connections : Rearranged came old new
   pub count : new.came + left ≤ old.came + before
 
@@ -48,7 +48,7 @@ pub record Reassigns (old new : Callers) (before left : ℕ) (shown seen : Optio
 -- of those who were to be accepted still.
 pub record Hosts {D : Type 0} (Serves : D → Tick → Message → Answer → D → Type 0) (from to : Between D) (old new : Callers) (before left : ℕ) (shown seen : Option (List Begun)) : Type 0 where
   pub came : List Begun
-  pub told : Adds shown came seen
+  pub reported : Adds shown came seen
   pub connections : Happened Serves from to came old new
   pub count : new.came + left ≤ old.came + before
 
@@ -60,7 +60,7 @@ pub record Served {D : Type 0} (Serves : D → Tick → Message → Answer → D
   pub all : History
   pub connections : Connections Serves came old new all
   pub begun : List Begun
-  pub told : Adds shown begun seen
+  pub reported : Adds shown begun seen
   pub among : AreAmong all.firsts begun
 
 -- how many callers are accepted: so many, and for 0 as many as a `u64` counts, which no server sees the end of

@@ -90,7 +90,7 @@ pub fn read_tick<O: System>(rt: &O) -> Option<Tick>
 }
 
 impl<O: System, M: Ledger> Ticks for ClockTicks<'_, O, M> {
-    ghost told = { λ _. None };
+    ghost reported = { λ _. None };
 
     ghost reads = { IsRead O.shows O.gives };
 

@@ -208,7 +208,7 @@ fn run_with_ledgers<
     requires failures { IsBlankOf M.Ledger blanks.1 }
     ensures listens { N.listens network.new ≡ N.listens network.old }
     ensures hosts { Hosts (AtTick T.reads D.serves)
-        (between (T.told ticks.old) handler.old) (between (T.told ticks.new) handler.new)
+        (between (T.reported ticks.old) handler.old) (between (T.reported ticks.new) handler.new)
         server.old.connections server.new.connections server.old.left server.new.left
         (N.came network.old) (N.came network.new) }
     ensures ends { RoundsEnd result server.old.connections server.new.connections }
@@ -253,7 +253,7 @@ pub fn run_event_loop<
 ) -> Result<(), RunFault>
     ensures listens { N.listens network.new ≡ N.listens network.old }
     ensures answers { AnswersCallers (AtTick T.reads D.serves) (most_of connections)
-        (between (T.told ticks.old) handler.old) (between (T.told ticks.new) handler.new)
+        (between (T.reported ticks.old) handler.old) (between (T.reported ticks.new) handler.new)
         (N.came network.old) (N.came network.new) result }
 {
     match Server::<R, E>::new(host.alloc, host.log, most_of(connections)) {

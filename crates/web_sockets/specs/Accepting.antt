@@ -1,7 +1,7 @@
 -- Who comes to a network.
 use Rattle.std.specs.Prelude.{◌≡◌, ℕ, List, [], ◌∷◌, Option, Result, Ok, Err}
 use Rattle.base_devices.specs.declared.device.Refused.{Refused}
-use Rattle.base_devices.specs.Told.{Adds}
+use Rattle.base_devices.specs.Reported.{Adds}
 use Rattle.web_sockets.specs.declared.network.Accepted.{Accepted}
 use Rattle.web_sockets.specs.declared.network.Accepted.TheVariants as accepted
 

@@ -1,7 +1,7 @@
 -- What a read that doesn't wait gives: some bytes, the end, or nothing yet.
 use Rattle.std.specs.Prelude.{ℕ, ◌<◌, ◌≤◌, List, [], length, take, Option, Result, Ok, Err}
 use Rattle.std.specs.Io.KnownBytes.{IsAtEnd}
-use Rattle.base_devices.specs.Told.{Gives}
+use Rattle.base_devices.specs.Reported.{Gives}
 use Rattle.base_devices.specs.declared.device.Refused.{Refused}
 use Rattle.web_sockets.specs.declared.ends.Came.{Came}
 use Rattle.web_sockets.specs.declared.ends.Came.TheVariants as cames

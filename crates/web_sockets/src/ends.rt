@@ -1,7 +1,7 @@
 //! The two directions of a connection, neither of which waits.
 
 ghost use Rattle.std.specs.Prelude.{◌≡◌, ℕ, ◌≤◌, List, [], Option, length, IfOk, OnErr};
-ghost use Rattle.base_devices.specs.Told.{Adds, AddsSoMany};
+ghost use Rattle.base_devices.specs.Reported.{Adds, AddsSoMany};
 ghost use Rattle.web_sockets.specs.Reads.{Reads};
 
 use base_devices::Refused;

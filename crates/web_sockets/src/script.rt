@@ -1,7 +1,7 @@
 //! A connection over memory, which goes as a script says.
 
 ghost use Rattle.std.specs.Prelude.{◌≡◌, ◌≤◌, ◌++◌, [], Some, Ok, length, take, min, IfOk, OnErr};
-ghost use Rattle.base_devices.specs.Told.{Adds, AddsSoMany};
+ghost use Rattle.base_devices.specs.Reported.{Adds, AddsSoMany};
 ghost use Rattle.web_sockets.specs.Reads.{Reads};
 ghost use Rattle.web_sockets.specs.Scripts.{came_of, limit_of, rest_of};
 

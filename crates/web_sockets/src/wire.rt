@@ -2,7 +2,7 @@
 
 ghost use Rattle.std.specs.Prelude.{◌≡◌, ℕ, ◌<◌, ◌≤◌, List, [], Option, None, length, IfOk, OnErr};
 ghost use Rattle.std.specs.Io.KnownBytes.{IsAtEnd};
-ghost use Rattle.base_devices.specs.Told.{Adds, AddsSoMany, Gives, GivesSoMany};
+ghost use Rattle.base_devices.specs.Reported.{Adds, AddsSoMany, Gives, GivesSoMany};
 
 use crate::ends::Awaited;
 use mio::net::TcpStream;

@@ -48,22 +48,22 @@ impl Answers for Fresh {
 /// The moments that the first line of a case lists, and how many of them stand before a bar: these were told before.
 pub(crate) fn moments(alloc: Global, line: &str) -> anyhow::Result<(Vec<Moment>, usize)> {
     let mut moments = Vec::new(alloc);
-    let mut told = 0;
+    let mut reported = 0;
     for word in line.split(' ') {
         if word == "|" {
-            told = moments.len();
+            reported = moments.len();
         } else if !word.is_empty() {
             moments.push(read_moment(word)?)?;
         }
     }
-    Ok((moments, told))
+    Ok((moments, reported))
 }
 
 // How the stream ends, and what is written, with a ledger for each count.
 fn run<A: Ledger, B: Ledger, C: Ledger, D: Ledger, E: Ledger, S: Answers>(
     alloc: Global,
     moments: &[Moment],
-    told: usize,
+    reported: usize,
     input: Cut<'_>,
     shop: &mut S,
     output: &mut Vec<u8>,
@@ -91,7 +91,7 @@ fn run<A: Ledger, B: Ledger, C: Ledger, D: Ledger, E: Ledger, S: Answers>(
     };
     let mut ticks = Listed {
         moments,
-        told,
+        reported,
         failures: Steps::<E>::new(tick_failures),
     };
     shop.answer(alloc, &mut reader, &mut ticks, &mut writer)
@@ -108,13 +108,13 @@ pub(crate) fn answer_case<S: Answers>(
         return Ok(Vec::new(alloc));
     };
     let line = str::from_utf8(&case[..end])?;
-    let (moments, told) = moments(alloc, line)?;
+    let (moments, reported) = moments(alloc, line)?;
     let stream = Cut::new(&case[end + 1..], most);
     let mut written = Vec::new(alloc);
     let ended = run::<Brand, Brand, Brand, Brand, Brand, S>(
         alloc,
         moments.as_slice(),
-        told,
+        reported,
         stream,
         shop,
         &mut written,

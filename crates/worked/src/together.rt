@@ -33,7 +33,7 @@ fn run_together_with<M: Ledger, K: Handler>(
 {
     let mut ticks = Listed {
         moments,
-        told: 0,
+        reported: 0,
         failures: Steps::<M>::new(blank),
     };
     party.serve(alloc, order, &mut ticks, handler)
@@ -82,8 +82,8 @@ impl Houses for NewShops {
 fn show(rt: &HostRuntime, name: &str) -> anyhow::Result<()> {
     let path = format!(in rt.alloc(); "{name}.together")?;
     let text = fs::read_to_string(rt, path.as_str())?;
-    let told = together_told(rt.alloc(), &NewShops, name, text.as_str())?;
-    rt.write_all(told.as_slice())?;
+    let reported = together_told(rt.alloc(), &NewShops, name, text.as_str())?;
+    rt.write_all(reported.as_slice())?;
     Ok(())
 }
 

@@ -1,5 +1,5 @@
 use Rattle.std.proofs.Common.{◌≡◌, ◌⊎◌, ◌++◌, ◌≤◌, List, ℕ, [], length, take}
-use Rattle.base_devices.specs.Told.{Gives}
+use Rattle.base_devices.specs.Reported.{Gives}
 use Rattle.app_files.specs.Heads.{HasNoMark}
 use Rattle.app_files.proofs.heads.finds_mark.Given as goal
 

@@ -1,5 +1,5 @@
 use Rattle.std.proofs.Common.{◌≡◌, ◌+◌, ◌-◌, ◌≤◌, All, length, take}
-use Rattle.base_devices.specs.Told.{Gives}
+use Rattle.base_devices.specs.Reported.{Gives}
 use Rattle.app_run.proofs.typed.read_first_line.Given as goal
 
 abbrev pub invariant-loop-len : goal.invariant-loop-len

@@ -10,7 +10,7 @@ loop-turn-init g c = record {
   done = (
     [],
     Gives-nil _,
-    progress_none (AtTick g.T.Ticks.reads g.D.Handler.serves) _ _ (ap (λ (l : List ℕ). cursor l (g.T.Ticks.told c.args.ticks.now) c.args.handler.now (g.W.Drain.taken c.args.writer.now)) c.requires),
+    progress_none (AtTick g.T.Ticks.reads g.D.Handler.serves) _ _ (ap (λ (l : List ℕ). cursor l (g.T.Ticks.reported c.args.ticks.now) c.args.handler.now (g.W.Drain.taken c.args.writer.now)) c.requires),
     record { most = omega arith; some = omega arith },
   );
   clock = refl;
@@ -78,7 +78,7 @@ loop-turn-preserved g c =
       done = (
         done.0 ++ input,
         Gives-append _ _ _ _ _ done.1 read.leads.1,
-        subst (λ (l : List ℕ). Progress S (cursor (done.0 ++ input) (g.T.Ticks.told c.args.ticks.now) c.args.handler.now (g.W.Drain.taken c.args.writer.now)) (cursor l (g.T.Ticks.told c.answer_ready.new.ticks) c.answer_ready.new.handler (g.W.Drain.taken c.answer_ready.new.writer))) (sym read.leads.3) fed,
+        subst (λ (l : List ℕ). Progress S (cursor (done.0 ++ input) (g.T.Ticks.reported c.args.ticks.now) c.args.handler.now (g.W.Drain.taken c.args.writer.now)) (cursor l (g.T.Ticks.reported c.answer_ready.new.ticks) c.answer_ready.new.handler (g.W.Drain.taken c.answer_ready.new.writer))) (sym read.leads.3) fed,
         record {
           most = omega (arith, length-append done.0 input, done.3.most, read.leads.2.1);
           some = omega (arith, length-append done.0 input, done.3.some, read.leads.2.0);

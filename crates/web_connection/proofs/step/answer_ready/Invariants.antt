@@ -5,8 +5,8 @@ use Rattle.web_connection.proofs.step.answer_ready.Given as goal
 abbrev pub invariant-loop-failure : goal.invariant-loop-failure
 invariant-loop-failure g l = record {
   done : Progress (AtTick g.T.Ticks.reads g.D.Handler.serves)
-      (cursor l.fn.frames.left (g.T.Ticks.told l.fn.ticks) l.fn.handler (g.W.Drain.taken l.fn.writer))
-      (cursor l.frames.left (g.T.Ticks.told l.ticks) l.handler (g.W.Drain.taken l.writer));
+      (cursor l.fn.frames.left (g.T.Ticks.reported l.fn.ticks) l.fn.handler (g.W.Drain.taken l.fn.writer))
+      (cursor l.frames.left (g.T.Ticks.reported l.ticks) l.handler (g.W.Drain.taken l.writer));
   clock : g.T.Ticks.failures l.ticks ≡ g.T.Ticks.failures l.fn.ticks;
   output : g.W.Drain.failures l.writer ≡ g.W.Drain.failures l.fn.writer;
 }

@@ -26,9 +26,9 @@ returns-in-Ok-write_answer-clause-leads g c =
     let takes = takes_frame c.args.frames.now.left c.next.new.self.left c.in-Some.frame _ c.in-Some.ensures (next.0, next.1, next.2) in
     elim c.if-closes.branch [
       | then-closes w ↦
-          rw w.result-is (message_ends (AtTick g.T.Ticks.reads g.D.Handler.serves) _ _ _ _ _ _ _ _ c.in-Some.frame c.in-Ok-tick.tick c.serve-answer.result _ takes c.in-Ok-tick.ensures.told (c.in-Ok-tick.ensures.read, c.serve-answer.ensures) c.in-Ok-write_answer.ensures.0 c.closes-closes.ensures w.if-closes.true)
+          rw w.result-is (message_ends (AtTick g.T.Ticks.reads g.D.Handler.serves) _ _ _ _ _ _ _ _ c.in-Some.frame c.in-Ok-tick.tick c.serve-answer.result _ takes c.in-Ok-tick.ensures.reported (c.in-Ok-tick.ensures.read, c.serve-answer.ensures) c.in-Ok-write_answer.ensures.0 c.closes-closes.ensures w.if-closes.true)
       | else-closes w ↦
-          rw w.result-is (message_goes (AtTick g.T.Ticks.reads g.D.Handler.serves) _ _ _ _ _ _ _ _ c.in-Some.frame c.in-Ok-tick.tick c.serve-answer.result _ takes c.in-Ok-tick.ensures.told (c.in-Ok-tick.ensures.read, c.serve-answer.ensures) c.in-Ok-write_answer.ensures.0 c.closes-closes.ensures w.if-closes.false, next.3)
+          rw w.result-is (message_goes (AtTick g.T.Ticks.reads g.D.Handler.serves) _ _ _ _ _ _ _ _ c.in-Some.frame c.in-Ok-tick.tick c.serve-answer.result _ takes c.in-Ok-tick.ensures.reported (c.in-Ok-tick.ensures.read, c.serve-answer.ensures) c.in-Ok-write_answer.ensures.0 c.closes-closes.ensures w.if-closes.false, next.3)
     ]
 
 pub returns-clause-leads : goal.returns-clause-leads
@@ -36,4 +36,4 @@ returns-clause-leads g c =
     let next = rw c.in-Some-Ok.field-0-is at c.in-Some-Ok.ensures in
     let takes = takes_frame c.args.frames.now.left c.next.new.self.left c.in-Some.frame _ c.in-Some.ensures (next.0, next.1, next.2) in
     let part = c.in-Err-write_answer.ensures.0 in
-    message_broken (AtTick g.T.Ticks.reads g.D.Handler.serves) _ _ _ _ _ _ _ _ c.in-Some.frame c.in-Ok-tick.tick c.serve-answer.result _ part.0 part.1 takes c.in-Ok-tick.ensures.told (c.in-Ok-tick.ensures.read, c.serve-answer.ensures) part.2 part.3 c.closes-closes.ensures
+    message_broken (AtTick g.T.Ticks.reads g.D.Handler.serves) _ _ _ _ _ _ _ _ c.in-Some.frame c.in-Ok-tick.tick c.serve-answer.result _ part.0 part.1 takes c.in-Ok-tick.ensures.reported (c.in-Ok-tick.ensures.read, c.serve-answer.ensures) part.2 part.3 c.closes-closes.ensures

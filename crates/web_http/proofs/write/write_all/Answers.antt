@@ -1,6 +1,6 @@
 use Rattle.std.proofs.Common.{ℕ, List, take, drop, sym, subst, rules, append-nil, arith, ap, length, length-drop, take-append-drop}
 use Rattle.std.proofs.lemmas.List.{take_rest}
-use Rattle.base_devices.specs.Told.{Adds}
+use Rattle.base_devices.specs.Reported.{Adds}
 use Rattle.base_devices.proofs.ToldLemmas.{Adds-append, take_on}
 use Rattle.web_http.proofs.write.write_all.Goals as goal
 

@@ -1,5 +1,5 @@
 use Rattle.std.proofs.Common.{◌≡◌, ◌≤◌, ◌-◌, length, take}
-use Rattle.base_devices.specs.Told.{Adds}
+use Rattle.base_devices.specs.Reported.{Adds}
 use Rattle.web_http.proofs.write.write_all.Given as goal
 
 abbrev pub invariant-loop-at : goal.invariant-loop-at

@@ -9,8 +9,8 @@ use Rattle.web_server.proofs.serving.run_event_loop.Goals as goal
 pub returns-in-Ok-clause-answers : goal.returns-in-Ok-clause-answers
 returns-in-Ok-clause-answers g c =
     let S = AtTick g.T.Ticks.reads g.D.Handler.serves in
-    let from = between (g.T.Ticks.told c.args.ticks.now) c.args.handler.now in
-    let to = between (g.T.Ticks.told c.run_with_ledgers.new.ticks) c.run_with_ledgers.new.handler in
+    let from = between (g.T.Ticks.reported c.args.ticks.now) c.args.handler.now in
+    let to = between (g.T.Ticks.reported c.run_with_ledgers.new.ticks) c.run_with_ledgers.new.handler in
     let connections = c.run_with_ledgers.new.server.connections in
     let count = rw (c.in-Ok.ensures.connections, c.in-Ok.ensures.left) at c.run_with_ledgers.ensures.hosts.count in
     answers_all S from to 128 (most_of c.args.connections) _ _ connections _ _ c.run_with_ledgers.result

@@ -1,6 +1,6 @@
 use Rattle.std.proofs.Common.{refl, take, drop, sym, ap, ◌∙◌, subst, take-append-drop, ◌++◌, List, ℕ}
 use Rattle.std.proofs.lemmas.List.{drop-drop, take_rest}
-use Rattle.base_devices.specs.Told.{Adds}
+use Rattle.base_devices.specs.Reported.{Adds}
 use Rattle.web_connections.proofs.connection.Connection.send.Goals as goal
 
 pub returns-in-Ok : goal.returns-in-Ok
