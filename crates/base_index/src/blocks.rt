@@ -51,7 +51,7 @@ impl Blocks {
     }
 
     /// There are no places for more than 2^32.
-    pub fn known(&self)
+    pub fn recall_invariant(&self)
         ensures { length self.now.rows + self.now.room ≤ most_listed }
     {
         let _ = &self.room;

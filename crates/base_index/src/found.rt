@@ -37,7 +37,7 @@ impl<'a> Found<'a> {
         ensures all { result ≡ map id_of (take (end - first) (drop first entries.now.rows)) }
         ensures few { length result ≤ most_listed }
     {
-        entries.known();
+        entries.recall_invariant();
         Found {
             entries,
             first,

@@ -39,7 +39,7 @@ impl Index {
     }
 
     /// The entries rise.
-    pub fn known(&self)
+    pub fn recall_invariant(&self)
         ensures { AreInOrder (λ n. n) self.now.rows }
     {
         let _ = &self.entries;

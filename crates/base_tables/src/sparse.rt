@@ -52,7 +52,7 @@ impl<T: Row> Sparse<T> {
     }
 
     /// Ids rise, and there are no more rows than 2^32.
-    pub fn known(&self)
+    pub fn recall_invariant(&self)
         ensures { AreKept T.key most_listed self.now.rows }
     {
         let _ = &self.slots;

@@ -10,7 +10,7 @@ pub struct Draw {
 
 impl Draw {
     /// A draw is sixteen bytes.
-    pub fn known(self)
+    pub fn recall_invariant(self)
         ensures { IsDraw self }
     {
         let _bytes = self.bytes;

@@ -16,14 +16,14 @@ pub trait Known {
     ghost promise: { Self → Type 0 };
 
     /// What the type promises.
-    fn known(&self)
+    fn recall_invariant(&self)
         ensures { promise self.now };
 }
 
 impl Known for Text {
     ghost promise = { IsText };
 
-    fn known(&self) {
+    fn recall_invariant(&self) {
         let _chars = self.as_str();
     }
 }
@@ -31,7 +31,7 @@ impl Known for Text {
 impl Known for Cents {
     ghost promise = { IsMoney };
 
-    fn known(&self) {
+    fn recall_invariant(&self) {
         let _count = self.get();
     }
 }
@@ -39,7 +39,7 @@ impl Known for Cents {
 impl Known for Moment {
     ghost promise = { IsMoment };
 
-    fn known(&self) {
+    fn recall_invariant(&self) {
         let _seconds = self.get();
     }
 }
@@ -47,7 +47,7 @@ impl Known for Moment {
 impl Known for Uses {
     ghost promise = { IsUses };
 
-    fn known(&self) {
+    fn recall_invariant(&self) {
         let _count = self.get();
     }
 }
@@ -55,7 +55,7 @@ impl Known for Uses {
 impl Known for Size {
     ghost promise = { IsSize };
 
-    fn known(&self) {
+    fn recall_invariant(&self) {
         let _places = self.get();
     }
 }
@@ -63,7 +63,7 @@ impl Known for Size {
 impl Known for Priority {
     ghost promise = { IsPriority };
 
-    fn known(&self) {
+    fn recall_invariant(&self) {
         let _rank = self.get();
     }
 }
@@ -71,9 +71,9 @@ impl Known for Priority {
 impl<T: Known> Known for Option<T> {
     ghost promise = { λ o. IfSome o T.promise };
 
-    fn known(&self) {
+    fn recall_invariant(&self) {
         if let Some(value) = self {
-            value.known();
+            value.recall_invariant();
         }
     }
 }

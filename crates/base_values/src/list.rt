@@ -39,9 +39,9 @@ impl<T> List<T> {
 impl<T: Known> Known for List<T> {
     ghost promise = { λ l. AllByRecursion T.promise l };
 
-    fn known(&self) {
+    fn recall_invariant(&self) {
         for value in self.as_slice() {
-            value.known();
+            value.recall_invariant();
         }
     }
 }

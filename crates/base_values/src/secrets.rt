@@ -12,7 +12,7 @@ use std::alloc::{AllocError, Global};
 pub fn secret(alloc: Global, draw: Draw, order: u64, position: u32) -> Result<Text, AllocError>
     ensures { IfOk result (λ text. text ≡ secret draw order position) }
 {
-    draw.known();
+    draw.recall_invariant();
     Ok(Text::new(secret_chars(alloc, draw, order, position)?))
 }
 

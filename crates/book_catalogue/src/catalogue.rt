@@ -80,10 +80,10 @@ impl Catalogue {
     }
 
     /// The ids of quotas rise, and there are no more of them than 2^32.
-    pub fn known(&self)
+    pub fn recall_invariant(&self)
         ensures { AreKept (λ r. r.id) most_listed self.now.lists.quotas }
     {
-        self.quotas.known();
+        self.quotas.recall_invariant();
     }
 
     /// The quota of an id.
@@ -147,9 +147,9 @@ impl Catalogue {
     pub fn quotas_with(&self, product: Product) -> Found<'_>
         ensures { result ≡ quotas_of product self.now.lists }
     {
-        self.quotas.known();
-        self.by_item.known();
-        self.by_variation.known();
+        self.quotas.recall_invariant();
+        self.by_item.recall_invariant();
+        self.by_variation.recall_invariant();
         match product.variation {
             None => self.by_item.of_key(product.item),
             Some(variation) => self.by_variation.of_key(variation),

@@ -22,8 +22,8 @@ impl Book for Counters {
 
     ghost room = { λ b. b.room };
 
-    fn known(&self) {
-        self.store().known();
+    fn recall_invariant(&self) {
+        self.store().recall_invariant();
     }
 
     fn catalogue(&self) -> &Catalogue {

@@ -104,9 +104,9 @@ impl Counters {
         ensures value { result ≡ usage_of self.now.state.lists at quota.now }
         ensures cost { steps.new ≤ with_due_steps self.now.state at (steps.old + 1) }
     {
-        self.store.known();
+        self.store.recall_invariant();
         let catalogue = self.store.catalogue();
-        catalogue.known();
+        catalogue.recall_invariant();
         match place_of(catalogue.quotas(), quota.id) {
             Ok(place) => {
                 let ended = Ended::of(&self.store);

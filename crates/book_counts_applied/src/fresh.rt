@@ -297,7 +297,7 @@ pub fn count_usages(store: &Store, usages: &mut Vec<Usage>, redeems: &[u64])
     requires small { AreSmall store.now.state.lists }
     ensures { AreUsages store.now.state.lists store.now.state.moment usages.new.items }
 {
-    store.known();
+    store.recall_invariant();
     let at = store.moment();
     clear_usages(store.catalogue().quotas(), usages);
     add_positions(store, usages, store.positions().rows().as_slice());

@@ -84,7 +84,7 @@ fn keep_usages(store: &Store, usages: &mut Vec<Usage>, change: &Change)
     ensures room { room_left usages.old ≤ room_left usages.new + change_weight change.now }
 {
     let catalogue = store.catalogue();
-    catalogue.known();
+    catalogue.recall_invariant();
     match change {
         Change::PutQuota(row) => keep_place(catalogue.quotas(), usages, row.id, NOTHING),
         _ => {}
@@ -98,7 +98,7 @@ fn keep_beside<U: Copy + Drop>(store: &Store, kept: &mut Vec<U>, change: &Change
     ensures kept { KeepsVouchers other change.now store.now.state.lists kept.old kept.new }
     ensures room { room_left kept.old ≤ room_left kept.new + change_weight change.now }
 {
-    store.known();
+    store.recall_invariant();
     match change {
         Change::PutVoucher(row) => keep_place(vouchers(store), kept, row.id, other),
         Change::DropVoucher(id) => forget(vouchers(store), kept, *id),
@@ -129,7 +129,7 @@ fn keep_hold(store: &Store, holds: &mut Vec<u64>, row: &Voucher)
         holds.new.items }
     ensures room { room_left holds.old ≤ room_left holds.new + 1 }
 {
-    store.known();
+    store.recall_invariant();
     let held = held_by(store, holds, row.id, store.moment());
     keep(vouchers(store), holds, row.id, held);
 }
@@ -140,7 +140,7 @@ fn drop_hold(store: &Store, holds: &mut Vec<u64>, id: u64)
         (change_applied (Change.DropVoucher id) store.now.state) holds.new.items }
     ensures room { room_left holds.old ≤ room_left holds.new }
 {
-    store.known();
+    store.recall_invariant();
     forget(vouchers(store), holds, id);
 }
 
@@ -214,9 +214,9 @@ fn carry_all(store: &mut Store, counted: &mut Counted, from: Moment, mut list: V
     ensures small { AreSmall store.new.state.lists }
 {
     let _ = from;
-    store.known();
+    store.recall_invariant();
     let catalogue = store.catalogue();
-    catalogue.known();
+    catalogue.recall_invariant();
     list.reverse();
     while let Some(change) = list.pop() {
         carry(store, counted, change);
@@ -242,17 +242,17 @@ pub fn settle(
     ensures state { store.new.state ≡ changes_applied changes at store.old.state }
     ensures kept { AllCounted store.new.state counted.new }
 {
-    store.known();
+    store.recall_invariant();
     let old = store.catalogue();
-    old.known();
+    old.recall_invariant();
     let (list, next) = changes.into_parts();
     let from = store.moment();
     hold_at(store, &mut counted.holds, at);
     store.set(next, at);
     carry_all(store, counted, from, list);
-    store.known();
+    store.recall_invariant();
     let catalogue = store.catalogue();
-    catalogue.known();
+    catalogue.recall_invariant();
     set_usages(catalogue.quotas(), &mut counted.usages, counts.quotas());
     set_redeems(vouchers(store), &mut counted.redeems, counts.vouchers());
     set_spents(vouchers(store), &mut counted.spents, counts.vouchers());

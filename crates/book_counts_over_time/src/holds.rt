@@ -49,7 +49,7 @@ pub fn hold_put(store: &Store, holds: &mut Vec<u64>, row: &CartPos)
         (change_applied (Change.PutCart row.now) store.now.state) holds.new.items }
     ensures stays { Stays holds.old holds.new }
 {
-    store.known();
+    store.recall_invariant();
     let at = store.moment();
     let gone = held_name(at, store.cart(row.id));
     turn_one(vouchers(store), holds, held_name(at, Some(row)), true);
@@ -63,7 +63,7 @@ pub fn hold_drop(store: &Store, holds: &mut Vec<u64>, id: u64)
         (change_applied (Change.DropCart id) store.now.state) holds.new.items }
     ensures stays { Stays holds.old holds.new }
 {
-    store.known();
+    store.recall_invariant();
     let gone = held_name(store.moment(), store.cart(id));
     turn_one(vouchers(store), holds, gone, false);
 }
@@ -85,7 +85,7 @@ pub fn hold_at(store: &Store, holds: &mut Vec<u64>, at: Moment)
     ensures held { AreHeld store.now.state.lists at holds.new.items }
     ensures stays { Stays holds.old holds.new }
 {
-    store.known();
+    store.recall_invariant();
     let ids = store.carts_due(store.moment(), at);
     for place in 0..ids.len() {
         let name = name_at(store, ids.at(place));
@@ -134,7 +134,7 @@ pub fn held_by(store: &Store, holds: &[u64], voucher: u64, at: Moment) -> u64
     ensures value { result ≡ held at voucher store.now.state.lists }
     ensures few { result ≤ most_listed }
 {
-    store.known();
+    store.recall_invariant();
     if is_near(store, voucher, at) {
         if let Ok(place) = place_of(vouchers(store), voucher) {
             return holds[place].saturating_sub(ended_holds(store, voucher, at));

@@ -23,7 +23,7 @@ pub fn redeemed_in(store: &Store, redeems: &[u64], voucher: u64) -> u64
     ensures value { result ≡ redeemed voucher store.now.state.lists }
     ensures few { result ≤ most_listed }
 {
-    store.known();
+    store.recall_invariant();
     match place_of(vouchers(store), voucher) {
         Ok(at) => redeems[at],
         Err(_) => store.redeemed(voucher),

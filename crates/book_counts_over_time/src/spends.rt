@@ -16,7 +16,7 @@ pub fn spent_in(store: &Store, spents: &[u128], voucher: u64) -> u128
     ensures value { result ≡ spent voucher store.now.state.lists }
     ensures few { result ≤ most_spent }
 {
-    store.known();
+    store.recall_invariant();
     match place_of(vouchers(store), voucher) {
         Ok(at) => spents[at],
         Err(_) => store.spent(voucher),

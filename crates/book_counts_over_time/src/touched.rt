@@ -57,7 +57,7 @@ pub fn shift_product<S: UsageUpdate>(
         catalogue.now.lists.quotas usages.old usages.new }
     ensures stays { Stays usages.old usages.new }
 {
-    catalogue.known();
+    catalogue.recall_invariant();
     let ids = catalogue.quotas_with(product);
     shift_each(catalogue.quotas(), usages, &ids, shift);
 }
@@ -77,7 +77,7 @@ pub fn shift_hit<S: UsageUpdate>(
 {
     match voucher.quota {
         Some(id) => {
-            catalogue.known();
+            catalogue.recall_invariant();
             shift_one(catalogue.quotas(), usages, id, shift);
         }
         None => shift_target(catalogue, usages, voucher.item, voucher.variation, shift),

@@ -221,7 +221,7 @@ pub fn later<L: Ledger>(
     ensures fits { usage.blocked ≤ 18446744073709551615 }
     ensures cost { steps.new ≤ with_due_steps ended.now.state at steps.old }
 {
-    ended.known();
+    ended.recall_invariant();
     let lapsed = carts_lapsed(ended, quota, at, steps);
     let released = blocks_released(ended, redeems, quota, at, steps);
     Usage {

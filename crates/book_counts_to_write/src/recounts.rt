@@ -66,7 +66,7 @@ fn is_pending_in<B: Book>(book: &B, quota: &Quota, position: &OrderPos) -> bool
 fn blocked_in<B: Book>(book: &B, quota: &Quota, at: Moment) -> u64
     ensures { result ≡ blocked_in (B.state book.now).lists at quota.now }
 {
-    book.known();
+    book.recall_invariant();
     let mut blocked = 0;
     for voucher in book.vouchers() {
         blocked += blocked_by(book, quota, at, voucher);

@@ -104,7 +104,7 @@ pub fn has_count<B: Book>(book: &B, count: QuotaCount) -> bool
     ensures { result ≡ has_count (B.state book.now) count }
 {
     let catalogue = book.catalogue();
-    catalogue.known();
+    catalogue.recall_invariant();
     match catalogue.quota(count.quota) {
         None => false,
         Some(quota) => {
@@ -119,7 +119,7 @@ pub fn has_exits<B: Book>(book: &B, count: &QuotaCount) -> bool
     ensures { result ≡ has_exits (B.state book.now) count.now }
 {
     let catalogue = book.catalogue();
-    catalogue.known();
+    catalogue.recall_invariant();
     match catalogue.quota(count.quota) {
         None => false,
         Some(quota) => count.usage.exited == usage_of(book, quota, book.moment()).exited,
@@ -130,7 +130,7 @@ pub fn has_exits<B: Book>(book: &B, count: &QuotaCount) -> bool
 pub fn has_voucher<B: Book>(book: &B, count: VoucherCount) -> bool
     ensures { result ≡ has_voucher (B.state book.now) count }
 {
-    book.known();
+    book.recall_invariant();
     match book.voucher(count.voucher) {
         None => false,
         Some(_) => has_numbers(book, count),

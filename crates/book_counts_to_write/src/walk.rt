@@ -201,8 +201,8 @@ impl<'w, B: Book> Walk<'w, B> {
 pub fn ids_rise<B: Book>(book: &B)
     ensures { AreOrdered (B.state book.now).lists }
 {
-    book.known();
-    book.catalogue().known();
+    book.recall_invariant();
+    book.catalogue().recall_invariant();
 }
 
 // The ids of the quotas of these shifts.

@@ -60,10 +60,10 @@ impl<T: Keyed + Drop, R: OrderedRows<T>> Indexed<T, R> {
     }
 
     /// Ids rise, and there are no more rows than 2^32.
-    pub fn known(&self)
+    pub fn recall_invariant(&self)
         ensures { AreKept T.key most_listed self.now.rows }
     {
-        self.rows.known();
+        self.rows.recall_invariant();
     }
 
     /// What keeps the rows.
@@ -87,8 +87,8 @@ impl<T: Keyed + Drop, R: OrderedRows<T>> Indexed<T, R> {
         ensures sorted { rising result ≡ ids_passing T.key (has_end T.keys from to) self.now.rows }
         ensures few { length result ≤ most_listed }
     {
-        self.rows.known();
-        self.by_until.known();
+        self.rows.recall_invariant();
+        self.by_until.recall_invariant();
         self.by_until.between(from, to)
     }
 
@@ -98,8 +98,8 @@ impl<T: Keyed + Drop, R: OrderedRows<T>> Indexed<T, R> {
         ensures all { result ≡ ids_passing T.key (has_name T.keys named) self.now.rows }
         ensures few { length result ≤ most_listed }
     {
-        self.rows.known();
-        self.by_named.known();
+        self.rows.recall_invariant();
+        self.by_named.recall_invariant();
         self.by_named.of_key(named)
     }
 
@@ -109,8 +109,8 @@ impl<T: Keyed + Drop, R: OrderedRows<T>> Indexed<T, R> {
         ensures all { result ≡ ids_passing T.key (has_text T.keys digest) self.now.rows }
         ensures few { length result ≤ most_listed }
     {
-        self.rows.known();
-        self.by_text.known();
+        self.rows.recall_invariant();
+        self.by_text.recall_invariant();
         self.by_text.of_key(digest)
     }
 
@@ -120,8 +120,8 @@ impl<T: Keyed + Drop, R: OrderedRows<T>> Indexed<T, R> {
         ensures all { result ≡ ids_passing T.key (has_group T.keys group) self.now.rows }
         ensures few { length result ≤ most_listed }
     {
-        self.rows.known();
-        self.by_group.known();
+        self.rows.recall_invariant();
+        self.by_group.recall_invariant();
         self.by_group.of_key(group)
     }
 
@@ -169,7 +169,7 @@ impl<T: Keyed + Drop, R: OrderedRows<T>> Indexed<T, R> {
         let id = row.id();
         let new = row.keys();
         let old = self.keys_of(id);
-        self.rows.known();
+        self.rows.recall_invariant();
         replace(&mut self.by_until, id, old.until, new.until);
         replace(&mut self.by_named, id, old.named, new.named);
         replace(&mut self.by_text, id, old.text, new.text);
@@ -183,7 +183,7 @@ impl<T: Keyed + Drop, R: OrderedRows<T>> Indexed<T, R> {
         ensures room { self.old.room ≤ self.new.room }
     {
         let old = self.keys_of(id);
-        self.rows.known();
+        self.rows.recall_invariant();
         remove(&mut self.by_until, id, old.until);
         remove(&mut self.by_named, id, old.named);
         remove(&mut self.by_text, id, old.text);
@@ -211,7 +211,7 @@ fn remove(index: &mut Index, id: u64, key: Option<u64>)
     ensures sorted { AreInOrder (λ n. n) index.old.rows }
     ensures room { index.old.room ≤ index.new.room }
 {
-    index.known();
+    index.recall_invariant();
     if let Some(key) = key {
         index.remove(key, id);
     }

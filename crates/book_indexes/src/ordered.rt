@@ -17,7 +17,7 @@ pub trait OrderedRows<T: Row + Drop> {
         ensures { (table result).rows ≡ [] };
 
     /// Ids rise, and there are no more rows than 2^32.
-    fn known(&self)
+    fn recall_invariant(&self)
         ensures { AreKept T.key most_listed (table self.now).rows };
 
     /// The row of an id.
@@ -54,8 +54,8 @@ impl<T: Row + Drop> OrderedRows<T> for Rows<T> {
         Rows::new(alloc)
     }
 
-    fn known(&self) {
-        self.known();
+    fn recall_invariant(&self) {
+        self.recall_invariant();
     }
 
     fn get(&self, id: u64) -> Option<&T> {
@@ -87,8 +87,8 @@ impl<T: Row + Drop> OrderedRows<T> for Sparse<T> {
         Sparse::new(alloc)
     }
 
-    fn known(&self) {
-        self.known();
+    fn recall_invariant(&self) {
+        self.recall_invariant();
     }
 
     fn get(&self, id: u64) -> Option<&T> {

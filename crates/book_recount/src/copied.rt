@@ -40,8 +40,8 @@ fn copy_of<B: Book>(book: &B, alloc: Global) -> Result<Recount, AllocError>
     ensures lists { IfOk result (λ copy. copy.state.lists ≡ counted_rows (B.state book.now).lists) }
     ensures moment { IfOk result (λ copy. copy.state.moment ≡ (B.state book.now).moment) }
 {
-    book.known();
-    book.catalogue().known();
+    book.recall_invariant();
+    book.catalogue().recall_invariant();
     let list = puts_of(book, alloc)?;
     let changes = Changes::new(list, book.next_ids());
     let mut copy = Recount::new(alloc);

@@ -257,14 +257,14 @@ impl Book for Recount {
 
     ghost room = { λ b. b.room };
 
-    fn known(&self) {
-        self.vouchers.known();
-        self.carts.known();
-        self.orders.known();
-        self.positions.known();
-        self.waiting.known();
-        self.checkin_lists.known();
-        self.checkins.known();
+    fn recall_invariant(&self) {
+        self.vouchers.recall_invariant();
+        self.carts.recall_invariant();
+        self.orders.recall_invariant();
+        self.positions.recall_invariant();
+        self.waiting.recall_invariant();
+        self.checkin_lists.recall_invariant();
+        self.checkins.recall_invariant();
     }
 
     fn catalogue(&self) -> &Catalogue {

@@ -33,7 +33,7 @@ impl Store {
         ensures { IfOk result (λ _. ids.new.items
             ≡ ids.old.items ++ ids_in_cart cart.now self.now.state.lists.carts) }
     {
-        self.known();
+        self.recall_invariant();
         let found = self.carts().with_text(digest(cart.as_str()));
         for place in 0..found.len() {
             self.push_cart(ids, found.at(place), cart)?;
@@ -45,7 +45,7 @@ impl Store {
     pub fn carts_in(&self, alloc: Global, carts: &[Text]) -> Result<Vec<u64>, AllocError>
         ensures { IfOk result (λ ids. ids.items ≡ carts_consumed carts.now self.now.state.lists) }
     {
-        self.known();
+        self.recall_invariant();
         let mut ids = Vec::new(alloc);
         for cart in carts {
             self.push_carts(&mut ids, cart)?;

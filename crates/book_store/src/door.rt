@@ -24,7 +24,7 @@ impl Store {
     ) -> Result<List<Checkin>, AllocError>
         ensures { IfOk result (λ rows. rows ≡ checkins_by list position self.now.state.lists) }
     {
-        self.known();
+        self.recall_invariant();
         let mut rows = Vec::new(alloc);
         let ids = self.checkins().in_group(pair(list, position));
         for place in 0..ids.len() {
@@ -37,7 +37,7 @@ impl Store {
     pub fn last_at(&self, position: u64) -> Option<Passage>
         ensures { result ≡ last_at position self.now.state.lists.checkins }
     {
-        self.known();
+        self.recall_invariant();
         let mut last = None;
         let ids = self.checkins().naming(position);
         for place in 0..ids.len() {

@@ -47,10 +47,10 @@ impl<'s, L: Ledger> Ended<'s, L> {
     }
 
     /// Ids rise in each list of sales and of the door, and none of these lists is longer than 2^32.
-    pub fn known(&self)
+    pub fn recall_invariant(&self)
         ensures { IsKept most_listed self.now.state.lists }
     {
-        self.store.known();
+        self.store.recall_invariant();
     }
 
     /// The moment of the last changes.
@@ -106,7 +106,7 @@ impl<'s, L: Ledger> Ended<'s, L> {
         ensures found { IfOk result (IsPlace (λ v. v.id) self.now.state.lists.vouchers voucher) }
         ensures absent { IfErr result (IsGap (λ v. v.id) self.now.state.lists.vouchers voucher) }
     {
-        self.store.known();
+        self.store.recall_invariant();
         place_of(self.store.vouchers().rows().as_slice(), voucher)
     }
 }

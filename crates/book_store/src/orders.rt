@@ -35,7 +35,7 @@ impl Store {
     pub fn positions_of(&self, alloc: Global, order: u64) -> Result<List<OrderPos>, AllocError>
         ensures { IfOk result (λ rows. rows ≡ positions_of order self.now.state.lists) }
     {
-        self.known();
+        self.recall_invariant();
         let mut rows = Vec::new(alloc);
         let ids = self.positions_ordered(order);
         for place in 0..ids.len() {
@@ -97,7 +97,7 @@ impl Store {
     pub fn position_with(&self, secret: &str) -> Option<&OrderPos>
         ensures { option_copied result ≡ with_secret secret.now self.now.state.lists }
     {
-        self.known();
+        self.recall_invariant();
         let ids = self.positions().with_text(digest(secret));
         for place in 0..ids.len() {
             let found = self.secret_at(ids.at(place), secret);

@@ -38,7 +38,7 @@ impl Store {
         ensures { option_copied result
             ≡ find (waits_as email.now product) self.now.state.lists.waiting }
     {
-        self.known();
+        self.recall_invariant();
         let ids = self.waiting().with_text(digest(email));
         for place in 0..ids.len() {
             let found = self.waiting_at(ids.at(place), email, product);

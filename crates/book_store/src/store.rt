@@ -81,16 +81,16 @@ impl Store {
     }
 
     /// Ids rise in each list of sales and of the door, and none of these lists is longer than 2^32.
-    pub fn known(&self)
+    pub fn recall_invariant(&self)
         ensures { IsKept most_listed self.now.state.lists }
     {
-        self.vouchers.known();
-        self.carts.known();
-        self.orders.known();
-        self.positions.known();
-        self.waiting.known();
-        self.checkin_lists.known();
-        self.checkins.known();
+        self.vouchers.recall_invariant();
+        self.carts.recall_invariant();
+        self.orders.recall_invariant();
+        self.positions.recall_invariant();
+        self.waiting.recall_invariant();
+        self.checkin_lists.recall_invariant();
+        self.checkins.recall_invariant();
     }
 
     /// All that is for sale.

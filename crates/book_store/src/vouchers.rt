@@ -28,7 +28,7 @@ impl Store {
     pub fn voucher_of(&self, code: &str) -> Option<&Voucher>
         ensures { option_copied result ≡ voucher_of code.now self.now.state.lists }
     {
-        self.known();
+        self.recall_invariant();
         let ids = self.vouchers().with_text(digest(code));
         for place in 0..ids.len() {
             let found = self.coded_at(ids.at(place), code);

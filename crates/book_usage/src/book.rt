@@ -53,7 +53,7 @@ pub trait Book {
     ghost room: { Self → ℕ };
 
     /// Ids rise in each list of sales and of the door, and none of these lists is longer than 2^32.
-    fn known(&self)
+    fn recall_invariant(&self)
         ensures { IsKept most_listed (state self.now).lists };
 
     /// All that is for sale.

@@ -39,7 +39,7 @@ pub fn status<B: Book>(
 ) -> Result<DoorStatus, AllocError>
     ensures { IfOk result (λ status. status ≡ status_of list.now (B.state book.now).lists) }
 {
-    book.known();
+    book.recall_invariant();
     let mut stays = no_stays(book, alloc, list)?;
     note_all(&mut stays, list.id, book.checkins());
     Ok(counted(&stays))

@@ -37,7 +37,7 @@ pub fn cart_id(alloc: Global, new: &NewCart, draw: Draw, id: u64) -> Result<Text
 fn made_cart_id(alloc: Global, draw: Draw, id: u64) -> Result<Text, AllocError>
     ensures { IfOk result (λ text. text ≡ made_cart_id draw id) }
 {
-    draw.known();
+    draw.recall_invariant();
     Ok(Text::new(cart_id_chars(alloc, draw, id)?))
 }
 

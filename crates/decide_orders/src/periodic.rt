@@ -52,7 +52,7 @@ fn expire<B: Book>(draft: &mut Draft<'_, B>, alloc: Global, id: u64) -> Result<(
         None => return Ok(()),
         Some(order) => expired_row(alloc, order)?,
     };
-    draft.known();
+    draft.recall_invariant();
     draft.put_order(alloc, row)
 }
 
@@ -73,7 +73,7 @@ pub fn drop_dead_carts<B: Book>(draft: &mut Draft<'_, B>, alloc: Global) -> Resu
     requires carts { (now draft.old).lists.carts ≡ draft.old.log.base.carts }
     ensures { DoesAll carts_dropped dead_now dropped_changes draft.old draft.new result }
 {
-    draft.known();
+    draft.recall_invariant();
     let ids = draft.book().dead_carts(alloc, draft.moment())?;
     let mark = draft.mark();
     let dropped = drop_carts(draft, alloc, &ids);

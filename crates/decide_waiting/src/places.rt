@@ -52,7 +52,7 @@ pub fn first_closed<B: Book>(draft: &Draft<'_, B>, product: Product) -> Option<u
     ensures { result ≡ first_closed (now draft.now) product }
 {
     let catalogue = draft.rows().catalogue();
-    catalogue.known();
+    catalogue.recall_invariant();
     let quotas = catalogue.quotas_with(product);
     for place in 0..quotas.len() {
         let id = quotas.at(place);
@@ -94,7 +94,7 @@ pub fn places_left<B: Book>(
     ensures { IfOk result (λ left. left.items ≡ all_places_left (now draft.now)) }
 {
     let catalogue = draft.rows().catalogue();
-    catalogue.known();
+    catalogue.recall_invariant();
     let quotas = catalogue.quotas();
     let mut left = Vec::new(alloc);
     for quota in quotas {

@@ -42,7 +42,7 @@ fn turns_of<B: Book>(
     requires { ids.now ≡ map (λ e. e.id) (waiters (now draft.now).lists) }
     ensures { IfOk result (λ turns. turns.items ≡ map turn_of (waiters (now draft.now).lists)) }
 {
-    draft.known();
+    draft.recall_invariant();
     let mut turns = Vec::new(alloc);
     for id in ids {
         if let Some(entry) = draft.rows().entry(*id) {

@@ -64,7 +64,7 @@ fn ask_base<B: Book>(
         Ok(_) => Ok(()),
         Err(gap) => {
             let catalogue = book.catalogue();
-            catalogue.known();
+            catalogue.recall_invariant();
             let quotas = catalogue.quotas();
             let index = place as usize;
             if quotas.len() <= index {

@@ -98,14 +98,14 @@ impl<'a, B: Book> Draft<'a, B> {
 
     /// No voucher is used more often than it may be, and the ids of vouchers, of cart positions and of waiting entries
     /// rise.
-    pub fn known(&self)
+    pub fn recall_invariant(&self)
         ensures headroom { AllHaveHeadroom self.now.moment (rows_of self.now.log) }
         ensures vouchers { AreInOrder (λ r. r.id) (rows_of self.now.log).vouchers }
         ensures carts { AreInOrder (λ r. r.id) (rows_of self.now.log).carts }
         ensures waiting { AreInOrder (λ r. r.id) (rows_of self.now.log).waiting }
     {
         let _ = &self.moment;
-        self.overlay.known();
+        self.overlay.recall_invariant();
     }
 
     /// The moment of the changes.
@@ -135,7 +135,7 @@ impl<'a, B: Book> Draft<'a, B> {
             + held (now self.now).moment voucher (now self.now).lists }
         ensures few { result ≤ 17179869184 }
     {
-        self.overlay.known();
+        self.overlay.recall_invariant();
         let before = self.overlay.uses_before(voucher, self.moment);
         let since = self.tallies.uses().of(voucher);
         let come = u128::from(since.come.used) + u128::from(since.come.held);
@@ -161,7 +161,7 @@ impl<'a, B: Book> Draft<'a, B> {
         requires { quota_at quota.now.id (now self.now).lists.catalogue ≡ Some quota.now }
         ensures { result ≡ total (usage_of (now self.now).lists (now self.now).moment quota.now) }
     {
-        self.overlay.known();
+        self.overlay.recall_invariant();
         self.weighing(&self.mark(), &[]).used(quota)
     }
 
@@ -172,7 +172,7 @@ impl<'a, B: Book> Draft<'a, B> {
         requires stands { quota_at quota.now.id (now self.now).lists.catalogue ≡ Some quota.now }
         ensures { result ≡ count_by (waits_for quota.now) (now self.now).lists.waiting }
     {
-        self.overlay.known();
+        self.overlay.recall_invariant();
         usage_of(self.book, quota, self.moment).waiting
     }
 
@@ -195,7 +195,7 @@ impl<'a, B: Book> Draft<'a, B> {
         requires { HasHeadroom (now self.old).moment (now self.old).lists row }
         ensures { Makes (Change.PutVoucher row) self.old self.new result }
     {
-        self.known();
+        self.recall_invariant();
         self.change(alloc, Change::PutVoucher(row))
     }
 
@@ -204,7 +204,7 @@ impl<'a, B: Book> Draft<'a, B> {
     pub fn drop_voucher(&mut self, alloc: Global, id: u64) -> Result<(), AllocError>
         ensures { Makes (Change.DropVoucher id) self.old self.new result }
     {
-        self.known();
+        self.recall_invariant();
         self.change(alloc, Change::DropVoucher(id))
     }
 
@@ -216,7 +216,7 @@ impl<'a, B: Book> Draft<'a, B> {
             || has_use (now self.old).moment (now self.old).lists row.voucher) ≡ true }
         ensures { Makes (Change.PutCart row) self.old self.new result }
     {
-        self.known();
+        self.recall_invariant();
         self.change(alloc, Change::PutCart(row))
     }
 
@@ -225,7 +225,7 @@ impl<'a, B: Book> Draft<'a, B> {
     pub fn drop_cart(&mut self, alloc: Global, id: u64) -> Result<(), AllocError>
         ensures { Makes (Change.DropCart id) self.old self.new result }
     {
-        self.known();
+        self.recall_invariant();
         self.change(alloc, Change::DropCart(id))
     }
 
@@ -235,7 +235,7 @@ impl<'a, B: Book> Draft<'a, B> {
     pub fn put_waiting(&mut self, alloc: Global, row: Waiting) -> Result<(), AllocError>
         ensures { Makes (Change.PutWaiting row) self.old self.new result }
     {
-        self.known();
+        self.recall_invariant();
         self.change(alloc, Change::PutWaiting(row))
     }
 
@@ -245,7 +245,7 @@ impl<'a, B: Book> Draft<'a, B> {
     pub fn drop_waiting(&mut self, alloc: Global, id: u64) -> Result<(), AllocError>
         ensures { Makes (Change.DropWaiting id) self.old self.new result }
     {
-        self.known();
+        self.recall_invariant();
         self.change(alloc, Change::DropWaiting(id))
     }
 
@@ -255,7 +255,7 @@ impl<'a, B: Book> Draft<'a, B> {
     pub fn put_checkin_list(&mut self, alloc: Global, row: CheckinList) -> Result<(), AllocError>
         ensures { Makes (Change.PutCheckinList row) self.old self.new result }
     {
-        self.known();
+        self.recall_invariant();
         self.change(alloc, Change::PutCheckinList(row))
     }
 
@@ -266,7 +266,7 @@ impl<'a, B: Book> Draft<'a, B> {
         requires new { checkin_at row.id (now self.old).lists ≡ None }
         ensures { Makes (Change.PutCheckin row) self.old self.new result }
     {
-        self.known();
+        self.recall_invariant();
         self.change(alloc, Change::PutCheckin(row))
     }
 
@@ -279,7 +279,7 @@ impl<'a, B: Book> Draft<'a, B> {
             (change_applied (Change.PutOrder row) (now self.old)).lists }
         ensures { Makes (Change.PutOrder row) self.old self.new result }
     {
-        self.known();
+        self.recall_invariant();
         self.change(alloc, Change::PutOrder(row))
     }
 
@@ -293,7 +293,7 @@ impl<'a, B: Book> Draft<'a, B> {
             (change_applied (Change.PutPosition row) (now self.old)).lists }
         ensures { Makes (Change.PutPosition row) self.old self.new result }
     {
-        self.known();
+        self.recall_invariant();
         self.change(alloc, Change::PutPosition(row))
     }
 
@@ -305,7 +305,7 @@ impl<'a, B: Book> Draft<'a, B> {
         ensures err { OnErr result (self.new ≡ self.old) }
         ensures log { OnOk result (self.new ≡ with_change change self.old) }
     {
-        self.overlay.known();
+        self.overlay.recall_invariant();
         let count = self.overlay.len();
         let mark = self.tallies.counts().len();
         let catalogue = self.book.catalogue();

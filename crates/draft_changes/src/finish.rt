@@ -44,9 +44,9 @@ pub fn shifts_of<B: Book>(
     ensures { IfOk result (λ deltas. AreCountDeltas overlay.now.base (rows_of overlay.now) at deltas) }
 {
     let _ = at;
-    overlay.known();
+    overlay.recall_invariant();
     let catalogue = book.catalogue();
-    catalogue.known();
+    catalogue.recall_invariant();
     let counts = tallies.counts();
     let places = touched_places(alloc, counts)?;
     let quotas = quota_shifts(alloc, catalogue.quotas(), counts, places.as_slice())?;

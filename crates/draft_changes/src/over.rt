@@ -57,7 +57,7 @@ impl<'w, 'a, B: Book> Weighing<'w, 'a, B> {
         ensures { result ≡ first_over (rows_at self.now.count self.now.overlay.now)
             (rows_of self.now.overlay.now) self.now.at self.now.own.now }
     {
-        self.overlay.known();
+        self.overlay.recall_invariant();
         let quotas = self.quotas;
         match self.least_over() {
             None => None,
@@ -144,7 +144,7 @@ impl<'w, 'a, B: Book> Weighing<'w, 'a, B> {
         requires { quota_at quota.now.id self.now.overlay.now.base.catalogue ≡ Some quota.now }
         ensures { result ≡ places_used (rows_of self.now.overlay.now) self.now.at quota.now }
     {
-        self.book.catalogue().known();
+        self.book.catalogue().recall_invariant();
         match place_of(self.quotas, quota.id) {
             Ok(place) => {
                 let count = self.counts.of(place as u64);
@@ -162,7 +162,7 @@ impl<'w, 'a, B: Book> Weighing<'w, 'a, B> {
             (slice_index_or self.now.quotas.now place d) }
         ensures few { result ≤ most_used }
     {
-        self.book.catalogue().known();
+        self.book.catalogue().recall_invariant();
         let bases = self.bases;
         let quotas = self.quotas;
         match place_of(bases, place as u64) {

@@ -15,7 +15,7 @@ pub fn carts_after<B: Book>(overlay: &Overlay<'_, B>, carts: usize, change: &Cha
     requires carts { carts ≡ length (rows_of overlay.now).carts }
     ensures { result ≡ length (after_change change.now (rows_of overlay.now)).carts }
 {
-    overlay.known();
+    overlay.recall_invariant();
     match change {
         Change::PutCart(row) => without_one(carts + 1, overlay.cart(row.id)),
         Change::DropCart(id) => without_one(carts, overlay.cart(*id)),
@@ -28,7 +28,7 @@ pub fn vouchers_after<B: Book>(overlay: &Overlay<'_, B>, vouchers: usize, change
     requires vouchers { vouchers ≡ length (rows_of overlay.now).vouchers }
     ensures { result ≡ length (after_change change.now (rows_of overlay.now)).vouchers }
 {
-    overlay.known();
+    overlay.recall_invariant();
     match change {
         Change::PutVoucher(row) => without_one(vouchers + 1, overlay.voucher(row.id)),
         Change::DropVoucher(id) => without_one(vouchers, overlay.voucher(*id)),

@@ -64,7 +64,7 @@ pub fn count_each<S: Share>(
     let mut ids = Vec::new(alloc);
     share.touch(alloc, catalogue, &mut ids)?;
     let ids = Ids::sorted(ids);
-    catalogue.known();
+    catalogue.recall_invariant();
     count_touched(counts, catalogue.quotas(), ids.as_slice(), share)
 }
 

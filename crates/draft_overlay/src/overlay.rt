@@ -87,7 +87,7 @@ impl<'a, B: Book> Overlay<'a, B> {
     pub fn voucher_of(&self, code: &str) -> Option<&Voucher>
         ensures { option_copied result ≡ voucher_of code.now (rows_of self.now) }
     {
-        self.book.known();
+        self.book.recall_invariant();
         match lesser(self.unchanged_of(code), self.put_of(code)) {
             None => None,
             Some(id) => self.voucher(id),
@@ -98,7 +98,7 @@ impl<'a, B: Book> Overlay<'a, B> {
     fn unchanged_of(&self, code: &str) -> Option<u64>
         ensures { IsLeast (IsUnchanged code.now self.now) result }
     {
-        self.book.known();
+        self.book.recall_invariant();
         let first = self.book.voucher_of(code)?;
         if self.is_unchanged(first.id) {
             return Some(first.id);
@@ -190,7 +190,7 @@ impl<'a, B: Book> Overlay<'a, B> {
         ensures value { result ≡ naming voucher (rows_at (i + 1) self.now) }
         ensures few { result ≤ 12884901888 + i + 1 }
     {
-        self.book.known();
+        self.book.recall_invariant();
         let change = self.log.get(i);
         let come = u64::from(is_name(voucher, name_put(change)));
         let gone = u64::from(is_name(voucher, self.name_gone(i, change)));
@@ -316,7 +316,7 @@ impl<'a, B: Book> Overlay<'a, B> {
         ensures value { result ≡ redeemed voucher (rows_at (i + 1) self.now) }
         ensures few { result ≤ most_listed + i + 1 }
     {
-        self.book.known();
+        self.book.recall_invariant();
         match self.log.get(i) {
             Change::PutOrder(row) => {
                 let own = self.count_ordered(i, row.id, &Names { voucher });
@@ -359,7 +359,7 @@ impl<'a, B: Book> Overlay<'a, B> {
         ensures value { result ≡ count_ordered order (T.passes test.now) (rows_at i self.now) }
         ensures few { result ≤ most_with_changes }
     {
-        self.book.known();
+        self.book.recall_invariant();
         let kept = self.book.count_ordered(order, test);
         kept + self.count_put(i, order, test)
     }
@@ -368,7 +368,7 @@ impl<'a, B: Book> Overlay<'a, B> {
     pub fn purchases_of(&self, alloc: Global, order: u64) -> Result<Vec<Purchase>, AllocError>
         ensures { IfOk result (λ list. ArePurchasesOf order (rows_of self.now) list.items) }
     {
-        self.book.known();
+        self.book.recall_invariant();
         let rows = self.book.positions_of(alloc, order)?;
         let mut purchases = copy_purchases(alloc, self, rows.as_slice())?;
         if !self.puts_positions() {
@@ -437,7 +437,7 @@ impl<'a, B: Book> Overlay<'a, B> {
         ensures value { result ≡ count_by (T.passes test.now) (rows_at (i + 1) self.now).carts }
         ensures few { result ≤ most_listed + i + 1 }
     {
-        self.book.known();
+        self.book.recall_invariant();
         match self.log.get(i) {
             Change::PutCart(row) => {
                 let come = u64::from(test.passes(row));
@@ -470,12 +470,12 @@ impl<'a, B: Book> Overlay<'a, B> {
     }
 
     /// Ids rise in each list of sales, no list is too long to be counted, and what is for sale hasn't changed.
-    pub fn known(&self)
+    pub fn recall_invariant(&self)
         ensures kept { IsKept (most_listed + length self.now.changes) (rows_of self.now) }
         ensures few { length self.now.changes ≤ most_changes }
         ensures sales { AreSales self.now.changes self.now.base }
     {
-        self.book.known();
+        self.book.recall_invariant();
     }
 
     /// How many changes there are: at most 2^32.

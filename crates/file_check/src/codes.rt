@@ -66,7 +66,7 @@ fn all_have_new_codes<B: Book>(book: &B) -> bool
 fn are_unlike<B: Book>(book: &B) -> bool
     ensures { IsTrue result ↔ AreUnlike (B.state book.now).lists.vouchers }
 {
-    book.known();
+    book.recall_invariant();
     all_have_new_codes(book)
 }
 

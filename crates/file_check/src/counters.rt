@@ -43,7 +43,7 @@ fn are_used<B: Book>(book: &B, used: &[QuotaCount]) -> bool
     ensures { IsTrue result ↔ (used.now ≡ quota_counts (B.state book.now)) }
 {
     let catalogue = book.catalogue();
-    catalogue.known();
+    catalogue.recall_invariant();
     let quotas = catalogue.quotas();
     let count = quotas.len();
     if used.len() != count {

@@ -28,8 +28,8 @@ impl Limited for Item {
     ghost limited = { IsLimitedItem };
 
     fn is_limited(&self) -> bool {
-        self.name.known();
-        self.default_price.known();
+        self.name.recall_invariant();
+        self.default_price.recall_invariant();
         true
     }
 }
@@ -38,8 +38,8 @@ impl Limited for Variation {
     ghost limited = { IsLimitedVariation };
 
     fn is_limited(&self) -> bool {
-        self.name.known();
-        self.default_price.known();
+        self.name.recall_invariant();
+        self.default_price.recall_invariant();
         true
     }
 }
@@ -48,8 +48,8 @@ impl Limited for Quota {
     ghost limited = { IsLimitedQuota };
 
     fn is_limited(&self) -> bool {
-        self.name.known();
-        self.size.known();
+        self.name.recall_invariant();
+        self.size.recall_invariant();
         true
     }
 }
@@ -58,7 +58,7 @@ impl Limited for Quota {
 fn is_value(mode: PriceMode, value: Option<Cents>) -> bool
     ensures { IsTrue result ↔ IfSome value (IsValue mode) }
 {
-    value.known();
+    value.recall_invariant();
     match (mode, value) {
         (PriceMode::Percent, Some(value)) => value.get() <= 10_000,
         _ => true,
@@ -69,12 +69,12 @@ impl Limited for Voucher {
     ghost limited = { IsLimitedVoucher };
 
     fn is_limited(&self) -> bool {
-        self.code.known();
-        self.max_usages.known();
-        self.valid_until.known();
-        self.tag.known();
-        self.comment.known();
-        self.budget.known();
+        self.code.recall_invariant();
+        self.max_usages.recall_invariant();
+        self.valid_until.recall_invariant();
+        self.tag.recall_invariant();
+        self.comment.recall_invariant();
+        self.budget.recall_invariant();
         is_value(self.price_mode, self.value)
     }
 }
@@ -83,10 +83,10 @@ impl Limited for CartPos {
     ghost limited = { IsLimitedCart };
 
     fn is_limited(&self) -> bool {
-        self.cart_id.known();
-        self.price.known();
-        self.made_at.known();
-        self.expires.known();
+        self.cart_id.recall_invariant();
+        self.price.recall_invariant();
+        self.made_at.recall_invariant();
+        self.expires.recall_invariant();
         true
     }
 }
@@ -95,9 +95,9 @@ impl Limited for Order {
     ghost limited = { IsLimitedOrder };
 
     fn is_limited(&self) -> bool {
-        self.email.known();
-        self.made_at.known();
-        self.expires.known();
+        self.email.recall_invariant();
+        self.made_at.recall_invariant();
+        self.expires.recall_invariant();
         true
     }
 }
@@ -106,9 +106,9 @@ impl Limited for OrderPos {
     ghost limited = { IsLimitedPosition };
 
     fn is_limited(&self) -> bool {
-        self.price.known();
-        self.secret.known();
-        self.discount.known();
+        self.price.recall_invariant();
+        self.secret.recall_invariant();
+        self.discount.recall_invariant();
         true
     }
 }
@@ -117,9 +117,9 @@ impl Limited for Waiting {
     ghost limited = { IsLimitedWaiting };
 
     fn is_limited(&self) -> bool {
-        self.email.known();
-        self.priority.known();
-        self.created.known();
+        self.email.recall_invariant();
+        self.priority.recall_invariant();
+        self.created.recall_invariant();
         true
     }
 }
@@ -128,7 +128,7 @@ impl Limited for CheckinList {
     ghost limited = { IsLimitedCheckinList };
 
     fn is_limited(&self) -> bool {
-        self.name.known();
+        self.name.recall_invariant();
         true
     }
 }
@@ -137,8 +137,8 @@ impl Limited for Checkin {
     ghost limited = { IsLimitedCheckin };
 
     fn is_limited(&self) -> bool {
-        self.datetime.known();
-        self.nonce.known();
+        self.datetime.recall_invariant();
+        self.nonce.recall_invariant();
         true
     }
 }

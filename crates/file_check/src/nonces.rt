@@ -78,7 +78,7 @@ pub fn are_once<B: Book>(alloc: Global, book: &B) -> Result<bool, AllocError>
     if have_own_keys(alloc, book.checkins())? {
         return Ok(true);
     }
-    book.known();
+    book.recall_invariant();
     let new = all_are_new(alloc, book)?;
     Ok(new)
 }

@@ -73,7 +73,7 @@ pub fn answer_known(kept: Option<&Kept>)
     ensures { AllByRecursion IsTypedKept (kept_listed kept.entry) }
 {
     if let Some(answer) = kept {
-        answer.at.known();
+        answer.at.recall_invariant();
         let _status = answer.response.status.as_u16();
     }
 }

@@ -155,44 +155,44 @@ impl QuotaPatch {
 impl Known for NewVariation {
     ghost promise = { IsFitVariation };
 
-    fn known(&self) {
-        self.name.known();
-        self.default_price.known();
+    fn recall_invariant(&self) {
+        self.name.recall_invariant();
+        self.default_price.recall_invariant();
     }
 }
 
 impl Known for NewItem {
     ghost promise = { IsFitItem };
 
-    fn known(&self) {
-        self.name.known();
-        self.default_price.known();
-        self.variations.known();
+    fn recall_invariant(&self) {
+        self.name.recall_invariant();
+        self.default_price.recall_invariant();
+        self.variations.recall_invariant();
     }
 }
 
 impl Known for ItemPatch {
     ghost promise = { IsFitItemPatch };
 
-    fn known(&self) {
-        self.name.known();
-        self.default_price.known();
+    fn recall_invariant(&self) {
+        self.name.recall_invariant();
+        self.default_price.recall_invariant();
     }
 }
 
 impl Known for NewQuota {
     ghost promise = { IsFitQuota };
 
-    fn known(&self) {
-        self.name.known();
-        self.size.known();
+    fn recall_invariant(&self) {
+        self.name.recall_invariant();
+        self.size.recall_invariant();
     }
 }
 
 impl Known for QuotaPatch {
     ghost promise = { IsFitQuotaPatch };
 
-    fn known(&self) {
-        self.size.known();
+    fn recall_invariant(&self) {
+        self.size.recall_invariant();
     }
 }

@@ -47,27 +47,27 @@ pub enum Outcome {
 impl Known for Asked {
     ghost promise = { IsFitAsked };
 
-    fn known(&self) {
-        self.price.known();
+    fn recall_invariant(&self) {
+        self.price.recall_invariant();
     }
 }
 
 impl Known for NewCart {
     ghost promise = { IsFitCart };
 
-    fn known(&self) {
-        self.asked.known();
-        self.cart_id.known();
-        self.expires.known();
+    fn recall_invariant(&self) {
+        self.asked.recall_invariant();
+        self.cart_id.recall_invariant();
+        self.expires.recall_invariant();
     }
 }
 
 impl Known for Entry {
     ghost promise = { IsFitEntry };
 
-    fn known(&self) {
+    fn recall_invariant(&self) {
         if let Entry::New(new) = self {
-            new.known();
+            new.recall_invariant();
         }
     }
 }

@@ -126,16 +126,16 @@ impl DoorRefusal {
 impl Known for NewCheckinList {
     ghost promise = { IsFitCheckinList };
 
-    fn known(&self) {
-        self.name.known();
+    fn recall_invariant(&self) {
+        self.name.recall_invariant();
     }
 }
 
 impl Known for Scan {
     ghost promise = { IsFitScan };
 
-    fn known(&self) {
-        self.nonce.known();
-        self.datetime.known();
+    fn recall_invariant(&self) {
+        self.nonce.recall_invariant();
+        self.datetime.recall_invariant();
     }
 }

@@ -136,19 +136,19 @@ impl OrderRefusal {
 impl Known for NewOrder {
     ghost promise = { IsFitOrder };
 
-    fn known(&self) {
-        self.email.known();
-        self.expires.known();
-        self.positions.known();
+    fn recall_invariant(&self) {
+        self.email.recall_invariant();
+        self.expires.recall_invariant();
+        self.positions.recall_invariant();
     }
 }
 
 impl Known for Move {
     ghost promise = { IsFitMove };
 
-    fn known(&self) {
+    fn recall_invariant(&self) {
         if let Move::Extend(end) = self {
-            end.known();
+            end.recall_invariant();
         }
     }
 }

@@ -147,24 +147,24 @@ pub enum Kind {
 impl Known for Command {
     ghost promise = { IsFit };
 
-    fn known(&self) {
+    fn recall_invariant(&self) {
         match self {
-            Command::AddItem(new) => new.known(),
-            Command::ChangeItem(_, patch) => patch.known(),
-            Command::AddVariation(_, new) => new.known(),
-            Command::AddQuota(new) => new.known(),
-            Command::ResizeQuota(_, patch) => patch.known(),
-            Command::AddVoucher(new) => new.known(),
-            Command::ChangeVoucher(_, patch) => patch.known(),
-            Command::ImportVouchers(rows) => rows.known(),
-            Command::AddCart(new) => new.known(),
-            Command::AddCarts(entries) => entries.known(),
-            Command::AddOrder(new) => new.known(),
-            Command::MoveOrder(_, change) => change.known(),
-            Command::AddWaiting(new) => new.known(),
-            Command::ChangeWaiting(_, patch) => patch.known(),
-            Command::AddCheckinList(new) => new.known(),
-            Command::Redeem(_, _, scan) => scan.known(),
+            Command::AddItem(new) => new.recall_invariant(),
+            Command::ChangeItem(_, patch) => patch.recall_invariant(),
+            Command::AddVariation(_, new) => new.recall_invariant(),
+            Command::AddQuota(new) => new.recall_invariant(),
+            Command::ResizeQuota(_, patch) => patch.recall_invariant(),
+            Command::AddVoucher(new) => new.recall_invariant(),
+            Command::ChangeVoucher(_, patch) => patch.recall_invariant(),
+            Command::ImportVouchers(rows) => rows.recall_invariant(),
+            Command::AddCart(new) => new.recall_invariant(),
+            Command::AddCarts(entries) => entries.recall_invariant(),
+            Command::AddOrder(new) => new.recall_invariant(),
+            Command::MoveOrder(_, change) => change.recall_invariant(),
+            Command::AddWaiting(new) => new.recall_invariant(),
+            Command::ChangeWaiting(_, patch) => patch.recall_invariant(),
+            Command::AddCheckinList(new) => new.recall_invariant(),
+            Command::Redeem(_, _, scan) => scan.recall_invariant(),
             Command::DropVoucher(_)
             | Command::DropCart(_)
             | Command::DropWaiting(_)

@@ -152,27 +152,27 @@ impl VoucherRefusal {
 impl Known for NewVoucher {
     ghost promise = { IsFitVoucher };
 
-    fn known(&self) {
-        self.code.known();
-        self.max_usages.known();
-        self.valid_until.known();
-        self.value.known();
-        self.tag.known();
-        self.comment.known();
-        self.budget.known();
+    fn recall_invariant(&self) {
+        self.code.recall_invariant();
+        self.max_usages.recall_invariant();
+        self.valid_until.recall_invariant();
+        self.value.recall_invariant();
+        self.tag.recall_invariant();
+        self.comment.recall_invariant();
+        self.budget.recall_invariant();
     }
 }
 
 impl Known for VoucherPatch {
     ghost promise = { IsFitVoucherPatch };
 
-    fn known(&self) {
-        self.code.known();
-        self.max_usages.known();
-        self.valid_until.known();
-        self.value.known();
-        self.tag.known();
-        self.comment.known();
-        self.budget.known();
+    fn recall_invariant(&self) {
+        self.code.recall_invariant();
+        self.max_usages.recall_invariant();
+        self.valid_until.recall_invariant();
+        self.value.recall_invariant();
+        self.tag.recall_invariant();
+        self.comment.recall_invariant();
+        self.budget.recall_invariant();
     }
 }

@@ -97,16 +97,16 @@ impl WaitingRefusal {
 impl Known for NewWaiting {
     ghost promise = { IsFitWaiting };
 
-    fn known(&self) {
-        self.email.known();
-        self.priority.known();
+    fn recall_invariant(&self) {
+        self.email.recall_invariant();
+        self.priority.recall_invariant();
     }
 }
 
 impl Known for WaitingPatch {
     ghost promise = { IsFitWaitingPatch };
 
-    fn known(&self) {
-        self.priority.known();
+    fn recall_invariant(&self) {
+        self.priority.recall_invariant();
     }
 }

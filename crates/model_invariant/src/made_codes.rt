@@ -10,7 +10,7 @@ use std::alloc::{AllocError, Global};
 pub fn made_code(alloc: Global, draw: Draw, id: u64) -> Result<Text, AllocError>
     ensures { IfOk result (λ text. text ≡ made_code draw id) }
 {
-    draw.known();
+    draw.recall_invariant();
     Ok(Text::new(code_chars(alloc, draw, id)?))
 }
 

@@ -107,8 +107,8 @@ impl<B: Book> Office<B> {
         ensures sound { IfOk result (λ r. IsSound (changes_applied r.0.changes at self.now.state)) }
     {
         let book = self.book();
-        command.known();
-        draw.known();
+        command.recall_invariant();
+        draw.recall_invariant();
         decide_over(book, alloc, at, draw, command)
     }
 

@@ -33,9 +33,9 @@ impl Request {
 impl Known for Request {
     ghost promise = { IsFitRequest };
 
-    fn known(&self) {
+    fn recall_invariant(&self) {
         if let Request::Write(command) = self {
-            command.known();
+            command.recall_invariant();
         }
     }
 }
@@ -53,8 +53,8 @@ pub struct Arrival {
 impl Known for Arrival {
     ghost promise = { IsFitArrival };
 
-    fn known(&self) {
-        self.draw.known();
-        self.request.known();
+    fn recall_invariant(&self) {
+        self.draw.recall_invariant();
+        self.request.recall_invariant();
     }
 }

@@ -61,7 +61,7 @@ impl<T: Tables, B: Book, W: Wording> Shop<T, B, W> {
     }
 
     // Its office is sound.
-    pub(crate) fn known(&self)
+    pub(crate) fn recall_invariant(&self)
         ensures { IsSound self.now.state }
     {
         let _ = self.office.book();

@@ -132,7 +132,7 @@ impl<T: Tables, B: Dues, W: Wording> Shop<T, B, W> {
             (W.words self.old.wording) T.holds T.may_leave arrival self.old self.new) }
     {
         let answer = self.write(alloc, arrival);
-        self.known();
+        self.recall_invariant();
         answer
     }
 }

@@ -52,7 +52,7 @@ pub(crate) fn all_entries<B: Book>(
     requires { IsSound (B.state book.now) }
     ensures { IfOk result (λ rows. rows.items ≡ all_entries list.now (B.state book.now).lists) }
 {
-    book.known();
+    book.recall_invariant();
     let mut rows = all_unvisited(book.catalogue().items(), alloc, list)?;
     count_all(&mut rows, book, alloc, list)?;
     Ok(rows)

@@ -46,7 +46,7 @@ pub(crate) fn all_sales<B: Book>(book: &B, alloc: Global) -> Result<Vec<ItemSale
     ensures sales { IfOk result (λ sales. sales.items ≡ all_sales (B.state book.now).lists) }
     ensures few { IfOk result (λ sales. AreFew most_rows sales.items) }
 {
-    book.known();
+    book.recall_invariant();
     let mut sales = all_unsold(book.catalogue().items(), alloc)?;
     note_all(&mut sales, book);
     Ok(sales)
@@ -91,7 +91,7 @@ fn note_all<B: Book>(sales: &mut Vec<ItemSales>, book: &B)
         sales.new.items ≡ map (noted_all lists lists.positions) sales.old.items }
     ensures few { AreFew most_rows sales.new.items }
 {
-    book.known();
+    book.recall_invariant();
     for position in book.positions() {
         note_position(sales, book, position);
     }

@@ -42,9 +42,9 @@ pub enum Call {
 impl Known for Call {
     ghost promise = { IsFitCall };
 
-    fn known(&self) {
+    fn recall_invariant(&self) {
         if let Call::Write(command) = self {
-            command.known();
+            command.recall_invariant();
         }
     }
 }

@@ -84,7 +84,7 @@ impl<T: Tables, B: Dues> ShopHandler<T, B> {
     {
         match self.shop.wording().arrival(alloc, tick, frame, number) {
             Ok(Ok(arrival)) => {
-                arrival.known();
+                arrival.recall_invariant();
                 self.carry_out(alloc, arrival)
             }
             Ok(Err(response)) => Answer::Decided(response),

@@ -5,4 +5,4 @@ use Rattle.base_values.proofs.secrets.secret.Goals as goal
 
 pub new-requires : goal.new-requires
 new-requires c =
-    subst IsText (sym c.in_ok-secret_chars.ensures) (secret_text c.args.draw c.args.order c.args.position c.known.ensures c.ranges.order.fits (omega (arith, c.ranges.position.fits)))
+    subst IsText (sym c.in_ok-secret_chars.ensures) (secret_text c.args.draw c.args.order c.args.position c.recall_invariant.ensures c.ranges.order.fits (omega (arith, c.ranges.position.fits)))

@@ -18,7 +18,7 @@ returns c =
     let sold = c.add_positions.new.usages.items in
     let quotas : c.quotas.result.now ≡ lists.catalogue.quotas = c.quotas.ensures ∙ ap (λ (l : CatalogueLists). l.quotas) c.catalogue.ensures in
     let rows : c.as_slice.result.now ≡ lists.positions = search rules in
-    usages_come lists at none sold c.add_vouchers.new.usages.items c.add_carts.new.usages.items c.add_entries.new.usages.items c.known.ensures c.requires.small
+    usages_come lists at none sold c.add_vouchers.new.usages.items c.add_carts.new.usages.items c.add_entries.new.usages.items c.recall_invariant.ensures c.requires.small
     (c.clear_usages.ensures.items ∙ ap (λ (l : List Quota). map (λ q. nothing) l) quotas)
     (c.add_positions.ensures.items ∙ ap (λ (l : List OrderPos). map_beside (after_each (position_comes lists) l) lists.catalogue.quotas none) rows)
     (c.add_vouchers.ensures.items ∙ ap (λ (l : List Voucher). map_beside (after_each (voucher_comes lists at) l) lists.catalogue.quotas sold) c.vouchers.ensures)

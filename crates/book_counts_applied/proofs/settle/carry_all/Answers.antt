@@ -14,7 +14,7 @@ use Rattle.book_counts_applied.proofs.settle.carry_all.Goals as goal
 
 pub loop-change-init : goal.loop-change-init
 loop-change-init c =
-    let order = subst (λ (l : CatalogueLists). AreInOrder (λ (q : Quota). q.id) l.quotas) c.catalogue-catalogue.ensures c.known-2.ensures.in_order in
+    let order = subst (λ (l : CatalogueLists). AreInOrder (λ (q : Quota). q.id) l.quotas) c.catalogue-catalogue.ensures c.recall_invariant-2.ensures.in_order in
     let list : reverse c.reverse.new.self.items ≡ c.args.list.items = turned c.args.list.items c.reverse.new.self.items c.reverse.ensures.items in
     record {
       rest = ap (λ (l : List Change). after_all l c.args.store.now.state.lists) list;
@@ -29,8 +29,8 @@ loop-change-init c =
       new = subst (λ (l : List Change). ArePutsNew (redeemed_at c.args.store.now.state) l c.args.store.now.state.lists) (sym list) c.requires.new;
       unspent = subst (λ (l : List Change). ArePutsNew (spent_at c.args.store.now.state) l c.args.store.now.state.lists) (sym list) c.requires.unspent;
       usages = by_id (record c.args.store.now.state { moment = c.args.from }) c.args.counted.now.usages.items order c.requires.usages;
-      redeems = redeemed_by_id c.args.store.now.state c.args.counted.now.redeems.items c.known.ensures.vouchers.in_order c.requires.redeems;
-      spents = spent_by_id c.args.store.now.state c.args.counted.now.spents.items c.known.ensures.vouchers.in_order c.requires.spents;
+      redeems = redeemed_by_id c.args.store.now.state c.args.counted.now.redeems.items c.recall_invariant.ensures.vouchers.in_order c.requires.redeems;
+      spents = spent_by_id c.args.store.now.state c.args.counted.now.spents.items c.recall_invariant.ensures.vouchers.in_order c.requires.spents;
       small = c.requires.small;
       held = c.requires.held;
     }

@@ -47,8 +47,8 @@ returns-clause-kept c =
     let old : State = c.args.store.now.state in
     let new : State = c.carry_all.new.store.state in
     let is : new ≡ changes_applied c.args.changes c.args.at old = search rules in
-    let before = subst (λ (l : CatalogueLists). AreInOrder (λ (q : Quota). q.id) l.quotas) c.catalogue-old.ensures c.known-2.ensures.in_order in
-    let after = subst (λ (l : List Quota). AreInOrder (λ (q : Quota). q.id) l) (sym c.quotas.ensures) c.known-4.ensures.in_order in
+    let before = subst (λ (l : CatalogueLists). AreInOrder (λ (q : Quota). q.id) l.quotas) c.catalogue-old.ensures c.recall_invariant-2.ensures.in_order in
+    let after = subst (λ (l : List Quota). AreInOrder (λ (q : Quota). q.id) l) (sym c.quotas.ensures) c.recall_invariant-4.ensures.in_order in
     let quotas = c.quotas.ensures ∙ ap (λ (l : CatalogueLists). l.quotas) c.catalogue-catalogue.ensures in
     let used =
     c.carry_all.ensures.usages
@@ -65,8 +65,8 @@ returns-clause-kept c =
     ∙ ap (λ (l : List Voucher). map (λ v. spent_at old v.id) l) (sym c.vouchers-3.ensures) in
     record {
       usages = settle_is old new c.carry_all.new.counted.usages.items c.set_usages.new.usages.items c.args.counts.now c.quotas-2.result.now c.quotas.result.now before after quotas (c.requires.counts ∙ ap (counts_after old) (sym is)) c.quotas-2.ensures used c.set_usages.ensures.kept;
-      redeems = redeems_are old new c.carry_all.new.counted.redeems.items c.set_redeems.new.redeems.items c.args.counts.now c.vouchers-2.result.now c.vouchers.result.now c.known.ensures.vouchers.in_order c.known-3.ensures.vouchers.in_order c.vouchers.ensures (c.requires.counts ∙ ap (counts_after old) (sym is)) c.vouchers-2.ensures uses c.set_redeems.ensures.kept;
-      spents = spents_are old new c.carry_all.new.counted.spents.items c.set_spents.new.spents.items c.args.counts.now c.vouchers-4.result.now c.vouchers-3.result.now c.known.ensures.vouchers.in_order c.known-3.ensures.vouchers.in_order c.vouchers-3.ensures (c.requires.counts ∙ ap (counts_after old) (sym is)) c.vouchers-4.ensures cents c.set_spents.ensures.kept;
+      redeems = redeems_are old new c.carry_all.new.counted.redeems.items c.set_redeems.new.redeems.items c.args.counts.now c.vouchers-2.result.now c.vouchers.result.now c.recall_invariant.ensures.vouchers.in_order c.recall_invariant-3.ensures.vouchers.in_order c.vouchers.ensures (c.requires.counts ∙ ap (counts_after old) (sym is)) c.vouchers-2.ensures uses c.set_redeems.ensures.kept;
+      spents = spents_are old new c.carry_all.new.counted.spents.items c.set_spents.new.spents.items c.args.counts.now c.vouchers-4.result.now c.vouchers-3.result.now c.recall_invariant.ensures.vouchers.in_order c.recall_invariant-3.ensures.vouchers.in_order c.vouchers-3.ensures (c.requires.counts ∙ ap (counts_after old) (sym is)) c.vouchers-4.ensures cents c.set_spents.ensures.kept;
       held = c.carry_all.ensures.held;
       small = c.carry_all.ensures.small;
     }

@@ -18,4 +18,4 @@ returns-in-Ok-clause-value c =
 pub returns-in-Ok-clause-few : goal.returns-in-Ok-clause-few
 returns-in-Ok-clause-few c =
     let lists = c.args.store.now.state.lists in
-    omega (arith, returns-in-Ok-clause-value c, count_by-le-length (holds c.args.at c.args.voucher) lists.carts, c.known.ensures.carts.few)
+    omega (arith, returns-in-Ok-clause-value c, count_by-le-length (holds c.args.at c.args.voucher) lists.carts, c.recall_invariant.ensures.carts.few)

@@ -11,4 +11,4 @@ returns-clause-held c =
     let lists = c.args.store.now.state.lists in
     let at = c.args.store.now.state.moment in
     let go = rw (c.vouchers.ensures, c.held_name-gone.ensures, c.cart.ensures, c.moment.ensures) at c.turn_one.ensures.counts (λ n. held at n lists) in
-    go c.requires ∙ same_map _ (λ v. held at v.id (after_change (DropCart c.args.id) lists)) lists.vouchers (λ v. held_drop lists at c.known.ensures c.args.id v.id)
+    go c.requires ∙ same_map _ (λ v. held at v.id (after_change (DropCart c.args.id) lists)) lists.vouchers (λ v. held_drop lists at c.recall_invariant.ensures c.args.id v.id)

@@ -15,7 +15,7 @@ returns-clause-held c =
     let at = c.args.store.now.state.moment in
     let come = rw (c.vouchers.ensures, c.held_name.ensures, c.moment-at.ensures) at c.turn_one.ensures.counts (λ n. held at n lists) in
     let go = rw (c.vouchers-2.ensures, c.held_name-gone.ensures, c.cart.ensures, c.moment-at.ensures) at c.turn_one-2.ensures.counts (turn true (held_name at (Some c.args.row.now)) (λ n. held at n lists)) in
-    go (come c.requires) ∙ same_map _ (λ v. held at v.id (after_change (PutCart c.args.row.now) lists)) lists.vouchers (λ v. held_put lists at c.known.ensures c.args.row.now v.id)
+    go (come c.requires) ∙ same_map _ (λ v. held at v.id (after_change (PutCart c.args.row.now) lists)) lists.vouchers (λ v. held_put lists at c.recall_invariant.ensures c.args.row.now v.id)
 
 pub returns-clause-stays : goal.returns-clause-stays
 returns-clause-stays c = record { room = c.turn_one-2.ensures.room ∙ c.turn_one.ensures.room; same = c.turn_one-2.ensures.same ∙ c.turn_one.ensures.same }

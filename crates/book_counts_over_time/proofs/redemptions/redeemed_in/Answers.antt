@@ -14,4 +14,4 @@ pub returns-in-Ok-clause-few : goal.returns-in-Ok-clause-few
 returns-in-Ok-clause-few c =
     let lists = c.args.store.now.state.lists in
     let place = rw c.vouchers.ensures at c.in-Ok.ensures.found in
-    omega (arith, kept_at (λ v. v.id) (λ id. redeemed id lists) lists.vouchers c.args.redeems.now c.args.voucher c.in-Ok.at 0 c.requires place, redeemed_le c.args.voucher 4294967296 lists c.known.ensures)
+    omega (arith, kept_at (λ v. v.id) (λ id. redeemed id lists) lists.vouchers c.args.redeems.now c.args.voucher c.in-Ok.at 0 c.requires place, redeemed_le c.args.voucher 4294967296 lists c.recall_invariant.ensures)

@@ -14,4 +14,4 @@ pub returns-in-Ok-clause-few : goal.returns-in-Ok-clause-few
 returns-in-Ok-clause-few c =
     let lists = c.args.store.now.state.lists in
     let place = rw c.vouchers.ensures at c.in-Ok.ensures.found in
-    omega (arith, kept_at (λ v. v.id) (λ id. spent id lists) lists.vouchers c.args.spents.now c.args.voucher c.in-Ok.at 0 c.requires.spents place, spent_le c.args.voucher lists 4294967296 c.known.ensures c.requires.priced)
+    omega (arith, kept_at (λ v. v.id) (λ id. spent id lists) lists.vouchers c.args.spents.now c.args.voucher c.in-Ok.at 0 c.requires.spents place, spent_le c.args.voucher lists 4294967296 c.recall_invariant.ensures c.requires.priced)

@@ -6,7 +6,7 @@ use Rattle.decide_door.proofs.Noting.{no_stays_in_order, status_is}
 use Rattle.decide_door.proofs.stays.status.Goals as goal
 
 pub note_all-requires : goal.note_all-requires
-note_all-requires g c = subst (λ l. AreInOrder (λ (s : Stay). s.position) l) (sym c.in_ok-stays.ensures) (no_stays_in_order c.args.list.now (g.B.Book.state c.args.book.now).lists c.known.ensures.positions.in_order)
+note_all-requires g c = subst (λ l. AreInOrder (λ (s : Stay). s.position) l) (sym c.in_ok-stays.ensures) (no_stays_in_order c.args.list.now (g.B.Book.state c.args.book.now).lists c.recall_invariant.ensures.positions.in_order)
 
 pub returns : goal.returns
 returns g c =

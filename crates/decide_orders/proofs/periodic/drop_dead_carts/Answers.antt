@@ -13,7 +13,7 @@ returns g c =
     let all = c.deref.ensures.value ∙ dead in
     let dropped = IfOk-at_ok _ (sym c.in_ok-end_attempt.ensures.answer) c.drop_carts-dropped.ensures.done in
     record {
-      done = ap now c.in_ok-end_attempt.ensures.kept ∙ dropped ∙ ap (λ (l : List ℕ). without_carts l state) all ∙ dropped_at_once state c.known.ensures.carts;
+      done = ap now c.in_ok-end_attempt.ensures.kept ∙ dropped ∙ ap (λ (l : List ℕ). without_carts l state) all ∙ dropped_at_once state c.recall_invariant.ensures.carts;
       count = search rules;
       extends = search rules;
       same = search rules;

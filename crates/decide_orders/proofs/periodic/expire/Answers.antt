@@ -10,4 +10,4 @@ put_order-requires g c =
     let state = now c.args.draft.now in
     let row = c.in_ok-row-in-Some.row in
     let ended : is_in_force row.status ≡ false = ap (λ (o : Order). is_in_force o.status) c.in_ok-row-in-Some.ensures in
-    headroom_kept_order row state.lists state.moment (λ force. absurd (cc (ended, force))) c.known.ensures.headroom
+    headroom_kept_order row state.lists state.moment (λ force. absurd (cc (ended, force))) c.recall_invariant.ensures.headroom

@@ -15,7 +15,7 @@ loop-place-init g c =
     let product = c.args.product in
     let lists : c.catalogue-catalogue.result.now.lists ≡ state.lists.catalogue = search rules in
     ap (λ (ids : List ℕ). find (is_full_at state) ids) (c.quotas_with-quotas.ensures ∙ ap (λ (l : CatalogueLists). quotas_of product l) lists)
-    ∙ first_by_ids state product (subst (λ (l : CatalogueLists). AreInOrder (λ q. q.id) l.quotas) lists c.known.ensures.in_order)
+    ∙ first_by_ids state product (subst (λ (l : CatalogueLists). AreInOrder (λ q. q.id) l.quotas) lists c.recall_invariant.ensures.in_order)
 
 pub returns-then-is_full_at : goal.returns-then-is_full_at
 returns-then-is_full_at g c =

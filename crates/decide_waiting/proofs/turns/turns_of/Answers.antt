@@ -18,9 +18,9 @@ loop-id-preserved g c =
           let found : waiting_at (get_or ids i 0) lists ≡ Some w.in-Some.entry.now = search rules in
           let pushed : c.match-entry.turns.items ≡ c.loop-id.turns.items ++ turn_of w.in-Some.entry.now ∷ [] = search rules in
           ap (λ (l : List Turn). l ++ map turn_of (drop (i + 1) (waiters lists))) pushed
-          ∙ next_turn lists c.known.ensures.waiting ids c.requires i c.loop-id-test.true c.loop-id.turns.items w.in-Some.entry.now found
+          ∙ next_turn lists c.recall_invariant.ensures.waiting ids c.requires i c.loop-id-test.true c.loop-id.turns.items w.in-Some.entry.now found
           ∙ c.loop-id.invariant
       | in_default w ↦
           let missing : waiting_at (get_or ids i 0) lists ≡ None = search rules in
-          absurd (none_missing lists c.known.ensures.waiting ids c.requires i c.loop-id-test.true missing)
+          absurd (none_missing lists c.recall_invariant.ensures.waiting ids c.requires i c.loop-id-test.true missing)
     ]

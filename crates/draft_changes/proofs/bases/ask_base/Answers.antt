@@ -25,4 +25,4 @@ pub used_in_book-total-requires-clause-stands : goal.used_in_book-total-requires
 used_in_book-total-requires-clause-stands g c =
     quota_stands c.catalogue-catalogue.result.now.lists (g.B.Book.state c.args.book.now).lists.catalogue c.quotas-quotas.result.now c.index-quotas-index.result c.args.place c.catalogue-catalogue.ensures
     (c.quotas-quotas.ensures ∙ ap (λ (k : CatalogueLists). k.quotas) c.catalogue-catalogue.ensures)
-    c.known.ensures.in_order (omega arith) c.index-quotas-index.is
+    c.recall_invariant.ensures.in_order (omega arith) c.index-quotas-index.is

@@ -13,13 +13,13 @@ returns-in-Ok-clause-value g c =
     let lists = c.self.inside.store.state.lists in
     let quota = c.args.quota.now in
     let quotas = c.quotas.ensures ∙ ap (λ (catalogue : CatalogueLists). catalogue.quotas) c.catalogue-catalogue.ensures in
-    let order : AreInOrder (λ r. r.id) lists.catalogue.quotas = rw c.catalogue-catalogue.ensures at c.known-2.ensures.in_order in
+    let order : AreInOrder (λ r. r.id) lists.catalogue.quotas = rw c.catalogue-catalogue.ensures at c.recall_invariant-2.ensures.in_order in
     let place = rw quotas at c.in-Ok.ensures.found in
     let stands = rw (← c.self.view_is) at c.requires.stands in
     let moment = rw (← c.self.view_is) at c.requires.moment in
     let kept : c.index.result.now ≡ usage_of lists state.moment quota = c.index.ensures ∙ kept_usage (usage_of lists state.moment) lists.catalogue.quotas c.self.inside.counted.usages.items quota c.in-Ok.place _ c.self.invariant.usages order place stands in
     let value = rw c.of-ended.ensures at c.later.ensures.value in
-    rw (← c.self.view_is) (value ∙ time_is quota lists state.moment c.args.at moment c.known.ensures c.index.result.now kept c.later.ensures.fits)
+    rw (← c.self.view_is) (value ∙ time_is quota lists state.moment c.args.at moment c.recall_invariant.ensures c.index.result.now kept c.later.ensures.fits)
 
 pub returns-in-Err-clause-value : goal.returns-in-Err-clause-value
 returns-in-Err-clause-value g c =

@@ -4,7 +4,7 @@ use Rattle.book_indexes.proofs.Selected.{found_rising}
 use Rattle.book_indexes.proofs.indexed.Indexed.in_group.Goals as goal
 
 pub returns-clause-finds : goal.returns-clause-finds
-returns-clause-finds g c = rw (← c.self.view_is) (sum_of_key (g.T.Row.key) (λ r. (g.T.Keyed.keys r).group) _ _ c.known.ensures.in_order c.known-2.ensures c.self.invariant.by_group c.args.group _ c.of_key.ensures.all)
+returns-clause-finds g c = rw (← c.self.view_is) (sum_of_key (g.T.Row.key) (λ r. (g.T.Keyed.keys r).group) _ _ c.recall_invariant.ensures.in_order c.recall_invariant-2.ensures c.self.invariant.by_group c.args.group _ c.of_key.ensures.all)
 
 pub returns-clause-all : goal.returns-clause-all
-returns-clause-all g c = found_rising (g.T.Row.key) _ c.args.self.now.rows _ (rw (← c.self.view_is) c.known.ensures.in_order) (returns-clause-finds g c) (rw c.of_key.ensures.all (ids_of_rise c.args.group _ c.known-2.ensures))
+returns-clause-all g c = found_rising (g.T.Row.key) _ c.args.self.now.rows _ (rw (← c.self.view_is) c.recall_invariant.ensures.in_order) (returns-clause-finds g c) (rw c.of_key.ensures.all (ids_of_rise c.args.group _ c.recall_invariant-2.ensures))

@@ -12,4 +12,4 @@ returns c =
     let rows = c.args.self.now.state.lists.carts in
     c.sorted.ensures
     ∙ ap rising (no_cart c.args.carts.now rows c.loop-cart.cart-index _ _ c.loop-cart-test.false c.loop-cart.invariant)
-    ∙ each_sorted c.args.carts.now rows c.known.ensures.carts.in_order
+    ∙ each_sorted c.args.carts.now rows c.recall_invariant.ensures.carts.in_order

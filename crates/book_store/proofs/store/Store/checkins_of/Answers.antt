@@ -17,5 +17,5 @@ pub returns : goal.returns
 returns c =
     c.new.ensures
     ∙ no_more (λ r. r.id) c.args.self.now.state.lists.checkins (λ (l : List Checkin). filter (λ r. r.list == c.args.list && r.position == c.args.position) l) c.in_group-ids.result c.loop-place.place _ _ c.loop-place.invariant (omega (arith, c.len-place-end.ensures, c.loop-place-test.false)) refl
-    ∙ ap (filter (λ (r : Checkin). r.list == c.args.list && r.position == c.args.position)) (rows_found (λ r. r.id) c.args.self.now.state.lists.checkins (λ (r : Checkin). names c.pair.result (checkin_keys r).group) c.in_group-ids.result c.known.ensures.checkins.in_order (rw c.checkins.ensures at c.in_group-ids.ensures.all))
+    ∙ ap (filter (λ (r : Checkin). r.list == c.args.list && r.position == c.args.position)) (rows_found (λ r. r.id) c.args.self.now.state.lists.checkins (λ (r : Checkin). names c.pair.result (checkin_keys r).group) c.in_group-ids.result c.recall_invariant.ensures.checkins.in_order (rw c.checkins.ensures at c.in_group-ids.ensures.all))
     ∙ filter_found (λ (r : Checkin). names c.pair.result (checkin_keys r).group) (λ (r : Checkin). r.list == c.args.list && r.position == c.args.position) (λ r. found_checkin c.pair.result r c.args.list c.args.position c.pair.ensures) c.args.self.now.state.lists.checkins

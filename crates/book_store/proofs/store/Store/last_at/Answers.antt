@@ -30,4 +30,4 @@ returns c =
     let rows = c.args.self.now.state.lists.checkins in
     ap (last_after c.loop-place.last) (sym (rows_end (λ (r : Checkin). r.id) rows c.naming-ids.result c.loop-place.place (omega (arith, c.len-place-end.ensures, c.loop-place-test.false))))
     ∙ c.loop-place.invariant
-    ∙ ap (last_after None) (rows_found (λ (r : Checkin). r.id) rows (λ (r : Checkin). names c.args.position (checkin_keys r).named) c.naming-ids.result c.known.ensures.checkins.in_order (rw c.checkins.ensures at c.naming-ids.ensures.all))
+    ∙ ap (last_after None) (rows_found (λ (r : Checkin). r.id) rows (λ (r : Checkin). names c.args.position (checkin_keys r).named) c.naming-ids.result c.recall_invariant.ensures.checkins.in_order (rw c.checkins.ensures at c.naming-ids.ensures.all))

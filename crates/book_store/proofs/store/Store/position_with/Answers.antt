@@ -11,7 +11,7 @@ pub returns-then-is_some : goal.returns-then-is_some
 returns-then-is_some c =
     c.secret_at-found.ensures.found
     ∙ this_first (λ r. r.id) c.args.self.now.state.lists.positions (λ (r : OrderPos). names c.digest.result (position_keys r).text) (λ (r : OrderPos). same_text r.secret c.args.secret.now)
-    c.with_text-ids.result c.loop-place.place c.known.ensures.positions.in_order (rw c.positions.ensures at c.with_text-ids.ensures.all)
+    c.with_text-ids.result c.loop-place.place c.recall_invariant.ensures.positions.in_order (rw c.positions.ensures at c.with_text-ids.ensures.all)
     (λ r. found_by_digest c.digest.result r.secret c.args.secret.now c.digest.ensures) c.at.result c.loop-place.invariant (omega (arith, c.len-place-end.ensures, c.loop-place-test.true)) c.at.ensures
     (sym c.secret_at-found.ensures.some ∙ sym c.is_some.ensures ∙ c.if-is_some.true)
 
@@ -24,5 +24,5 @@ loop-place-preserved c =
 pub returns : goal.returns
 returns c =
     none_first (λ r. r.id) c.args.self.now.state.lists.positions (λ (r : OrderPos). names c.digest.result (position_keys r).text) (λ (r : OrderPos). same_text r.secret c.args.secret.now)
-    c.with_text-ids.result c.loop-place.place c.known.ensures.positions.in_order (rw c.positions.ensures at c.with_text-ids.ensures.all)
+    c.with_text-ids.result c.loop-place.place c.recall_invariant.ensures.positions.in_order (rw c.positions.ensures at c.with_text-ids.ensures.all)
     (λ r. found_by_digest c.digest.result r.secret c.args.secret.now c.digest.ensures) c.loop-place.invariant (omega (arith, c.len-place-end.ensures, c.loop-place-test.false))

@@ -12,4 +12,4 @@ pub returns : goal.returns
 returns c =
     c.new.ensures
     ∙ no_more (λ r. r.id) c.args.self.now.state.lists.positions (λ (l : List OrderPos). l) c.positions_ordered-ids.result c.loop-place.place _ _ c.loop-place.invariant (omega (arith, c.len-place-end.ensures, c.loop-place-test.false)) refl
-    ∙ rows_found (λ r. r.id) c.args.self.now.state.lists.positions (λ (p : OrderPos). c.args.order == p.order) c.positions_ordered-ids.result c.known.ensures.positions.in_order c.positions_ordered-ids.ensures.all
+    ∙ rows_found (λ r. r.id) c.args.self.now.state.lists.positions (λ (p : OrderPos). c.args.order == p.order) c.positions_ordered-ids.result c.recall_invariant.ensures.positions.in_order c.positions_ordered-ids.ensures.all

@@ -17,5 +17,5 @@ pub returns : goal.returns
 returns c =
     let carts = c.args.self.now.state.lists.carts in
     no_more (λ r. r.id) carts (λ (l : List CartPos). map (λ r. r.id) (filter (λ r. same_text r.cart_id c.args.cart.now) l)) c.with_text-found.result c.loop-place.place _ _ c.loop-place.invariant (omega (arith, c.len-place-end.ensures, c.loop-place-test.false)) refl
-    ∙ ap (λ (l : List CartPos). c.args.ids.now.items ++ map (λ r. r.id) (filter (λ r. same_text r.cart_id c.args.cart.now) l)) (rows_found (λ r. r.id) carts (λ (r : CartPos). names c.digest.result (cart_keys r).text) c.with_text-found.result c.known.ensures.carts.in_order (rw c.carts.ensures at c.with_text-found.ensures.all))
+    ∙ ap (λ (l : List CartPos). c.args.ids.now.items ++ map (λ r. r.id) (filter (λ r. same_text r.cart_id c.args.cart.now) l)) (rows_found (λ r. r.id) carts (λ (r : CartPos). names c.digest.result (cart_keys r).text) c.with_text-found.result c.recall_invariant.ensures.carts.in_order (rw c.carts.ensures at c.with_text-found.ensures.all))
     ∙ ap (λ (l : List CartPos). c.args.ids.now.items ++ map (λ r. r.id) l) (filter_found (λ (r : CartPos). names c.digest.result (cart_keys r).text) (λ (r : CartPos). same_text r.cart_id c.args.cart.now) (λ r. found_by_digest c.digest.result r.cart_id c.args.cart.now (rw c.as_str.ensures.value at c.digest.ensures)) carts)

@@ -68,7 +68,7 @@ invariant_of-self-2 g c =
     let counted = subst (λ (qs : List Quota). IsNext at change (rows_of log) qs inside.tallies new) quotas next in
     subst (λ (l : Log). IsDraft book l at new c.ask_bases.new.bases.items c.note_voucher.new.noted.items) (sym pushed)
     (draft_more book log at inside.tallies inside.bases.items inside.noted.items before change new c.ask_bases.new.bases.items c.note_voucher.new.noted.items c.in_ok-note_voucher.ensures.ok
-    (tallied_more at log change inside.tallies new c.known.ensures.kept can before.now counted)
+    (tallied_more at log change inside.tallies new c.recall_invariant.ensures.kept can before.now counted)
     counted.counts.on counted.uses.on counted.reached c.ask_bases.ensures)
 
 pub returns-clause-ok : goal.returns-clause-ok

@@ -11,7 +11,7 @@ used-requires g c =
     let log = c.self.inside.overlay in
     let id = c.args.quota.now.id in
     ap (λ (l : Log). quota_at id l.base.catalogue) (c.weighing.ensures.overlay ∙ ap (λ (d : DraftState). d.log) (sym c.self.view_is))
-    ∙ ap (λ (k : CatalogueLists). quota_at id k) (sym (sales_catalogue log.changes log.base c.known.ensures.sales))
+    ∙ ap (λ (k : CatalogueLists). quota_at id k) (sym (sales_catalogue log.changes log.base c.recall_invariant.ensures.sales))
     ∙ ap (λ (d : DraftState). quota_at id (now d).lists.catalogue) c.self.view_is
     ∙ c.requires
 

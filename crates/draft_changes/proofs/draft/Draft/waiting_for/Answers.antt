@@ -10,6 +10,6 @@ usage_of-requires-clause-stands g c =
     let log = c.self.inside.overlay in
     let id = c.args.quota.now.id in
     ap (λ (l : Lists). quota_at id l.catalogue) (sym c.self.invariant.base)
-    ∙ ap (λ (k : CatalogueLists). quota_at id k) (sym (sales_catalogue log.changes log.base c.known.ensures.sales))
+    ∙ ap (λ (k : CatalogueLists). quota_at id k) (sym (sales_catalogue log.changes log.base c.recall_invariant.ensures.sales))
     ∙ ap (λ (d : DraftState). quota_at id (now d).lists.catalogue) c.self.view_is
     ∙ c.requires.stands

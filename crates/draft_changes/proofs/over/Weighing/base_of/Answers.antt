@@ -39,4 +39,4 @@ used_in_book-requires-clause-stands g c =
     let w = c.args.self.now in
     quota_stands c.catalogue.result.now.lists (g.B.Book.state w.book.now).lists.catalogue w.quotas.now c.index-quotas-place.result c.args.place c.catalogue.ensures
     (w.sold ∙ ap (λ (l : Lists). l.catalogue.quotas) w.base)
-    c.known.ensures.in_order c.requires c.index-quotas-place.is
+    c.recall_invariant.ensures.in_order c.requires c.index-quotas-place.is

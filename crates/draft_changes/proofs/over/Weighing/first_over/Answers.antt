@@ -14,7 +14,7 @@ returns-in-None g c =
     let w = c.args.self.now in
     let log = w.overlay.now in
     let passes = is_over (rows_at w.count log) (rows_of log) w.at w.own.now in
-    let sold : w.quotas.now ≡ (rows_of log).catalogue.quotas = w.sold ∙ ap (λ (k : CatalogueLists). k.quotas) (sym (sales_catalogue log.changes log.base c.known.ensures.sales)) in
+    let sold : w.quotas.now ≡ (rows_of log).catalogue.quotas = w.sold ∙ ap (λ (k : CatalogueLists). k.quotas) (sym (sales_catalogue log.changes log.base c.recall_invariant.ensures.sales)) in
     let least = subst (λ (o : Option ℕ). IsLeast (found_at (λ q. q.id) passes w.quotas.now) w.counts.now (length w.counts.now) o) c.in-None.is c.least_over.ensures.least in
     sym (none_over passes w.quotas.now w.counts.now least) ∙ ap (λ (qs : List Quota). option_map (λ (q : Quota). q.id) (find passes qs)) sold
 
@@ -23,6 +23,6 @@ returns-in-Some g c =
     let w = c.args.self.now in
     let log = w.overlay.now in
     let passes = is_over (rows_at w.count log) (rows_of log) w.at w.own.now in
-    let sold : w.quotas.now ≡ (rows_of log).catalogue.quotas = w.sold ∙ ap (λ (k : CatalogueLists). k.quotas) (sym (sales_catalogue log.changes log.base c.known.ensures.sales)) in
+    let sold : w.quotas.now ≡ (rows_of log).catalogue.quotas = w.sold ∙ ap (λ (k : CatalogueLists). k.quotas) (sym (sales_catalogue log.changes log.base c.recall_invariant.ensures.sales)) in
     let least = subst (λ (o : Option ℕ). IsLeast (found_at (λ q. q.id) passes w.quotas.now) w.counts.now (length w.counts.now) o) c.in-Some.is c.least_over.ensures.least in
     sym (least_over passes w.quotas.now w.counts.now c.in-Some.place c.index-quotas-place.result least) ∙ ap (λ (qs : List Quota). option_map (λ (q : Quota). q.id) (find passes qs)) sold

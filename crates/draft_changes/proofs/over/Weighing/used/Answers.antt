@@ -18,7 +18,7 @@ returns-in-Ok g c =
     let quotas = w.quotas.now in
     let sold : c.catalogue.result.now.lists.quotas ≡ quotas =
     ap (λ (k : CatalogueLists). k.quotas) c.catalogue.ensures ∙ ap (λ (l : Lists). l.catalogue.quotas) (sym w.base) ∙ sym w.sold in
-    let sorted : AreInOrder (λ (q : Quota). q.id) quotas = subst (λ (l : List Quota). AreInOrder (λ q. q.id) l) sold c.known.ensures.in_order in
+    let sorted : AreInOrder (λ (q : Quota). q.id) quotas = subst (λ (l : List Quota). AreInOrder (λ q. q.id) l) sold c.recall_invariant.ensures.in_order in
     let found : Some (get_or quotas place quota) ≡ Some quota =
     sym (row_at_place (λ (q : Quota). q.id) 0 quotas quota.id place quota sorted c.in-Ok.ensures.found) ∙ ap (λ (l : List Quota). row_at (λ q. q.id) quota.id l) w.sold ∙ c.requires in
     let here : get_or quotas place quota ≡ quota = cc found in

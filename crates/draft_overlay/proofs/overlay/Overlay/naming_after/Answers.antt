@@ -14,7 +14,7 @@ returns-clause-value g c =
     let voucher = c.args.voucher in
     let change = get_or log.changes c.args.i now in
     let read : now ≡ change = c.get-change.ensures ∙ ap (λ (l : Log). get_or l.changes c.args.i now) c.self.view_is in
-    let kept = kept_after_all 4294967296 (take c.args.i log.changes) log.base (subst (λ (l : Log). IsKept 4294967296 l.base) c.self.view_is c.known.ensures) in
+    let kept = kept_after_all 4294967296 (take c.args.i log.changes) log.base (subst (λ (l : Log). IsKept 4294967296 l.base) c.self.view_is c.recall_invariant.ensures) in
     let sales = subst (λ (l : Log). AreSales l.changes l.base) c.self.view_is c.self.invariant.sales in
     let come : c.from-come.result ≡ one_name voucher (name_put change) =
     c.from-come.ensures ∙ byte_is c.is_name.result ∙ ap (λ b. if b then 1 else 0) c.is_name.ensures ∙ ap (one_name voucher) (c.name_put.ensures ∙ ap name_put read) in

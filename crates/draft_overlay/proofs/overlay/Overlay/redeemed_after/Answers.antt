@@ -28,7 +28,7 @@ pub returns-in-PutOrder-clause-few : goal.returns-in-PutOrder-clause-few
 returns-in-PutOrder-clause-few g c =
     let log = c.args.self.now in
     let next = take (c.args.i + 1) log.changes in
-    let kept = kept_after_all 4294967296 next log.base (subst (λ (l : Log). IsKept 4294967296 l.base) c.self.view_is c.known.ensures) in
+    let kept = kept_after_all 4294967296 next log.base (subst (λ (l : Log). IsKept 4294967296 l.base) c.self.view_is c.recall_invariant.ensures) in
     omega (arith, returns-in-PutOrder-clause-value g c, redeemed_le c.args.voucher (4294967296 + length next) (rows_at (c.args.i + 1) log) kept, length-take-le (c.args.i + 1) log.changes (omega (arith, c.requires.place)))
 
 pub returns-in-PutPosition-clause-value : goal.returns-in-PutPosition-clause-value
@@ -37,7 +37,7 @@ returns-in-PutPosition-clause-value g c =
     let now = c.get.result.now in
     let row = c.in-PutPosition.row in
     let read = ap (λ (l : Log). get_or l.changes c.args.i now) (sym c.self.view_is) ∙ sym c.get.ensures in
-    let kept = kept_after_all 4294967296 (take c.args.i log.changes) log.base (subst (λ (l : Log). IsKept 4294967296 l.base) c.self.view_is c.known.ensures) in
+    let kept = kept_after_all 4294967296 (take c.args.i log.changes) log.base (subst (λ (l : Log). IsKept 4294967296 l.base) c.self.view_is c.recall_invariant.ensures) in
     let sales = subst (λ (l : Log). AreSales l.changes l.base) c.self.view_is c.self.invariant.sales in
     let come : c.from.result ≡ (if uses c.args.voucher (rows_at c.args.i log) row then 1 else 0) = c.from.ensures ∙ byte_is c.uses_at.result ∙ ap (λ b. if b then 1 else 0) c.uses_at.ensures in
     omega (arith, redeemed_put_position c.args.voucher log c.args.i now c.requires.place row (read ∙ c.in-PutPosition.is) kept.positions.in_order sales, come, c.requires.before)

@@ -19,4 +19,4 @@ returns-clause-sound g c =
     let state : State = g.B.Book.state c.book-book.result.now in
     let moment : state.moment ≤ c.args.at = subst (λ (s : State). s.moment ≤ c.args.at) (sym c.book-book.ensures.state) c.requires in
     subst (λ (s : State). IfOk c.decide_over.result (λ r. IsSound (changes_applied r.0.changes c.args.at s))) c.book-book.ensures.state
-    (IfOk-weaker c.decide_over.result _ _ (λ r is. subst IsSound (sym (ap (λ (x : State × Reply). x.0) is.step)) (step_sound c.args.command.now c.args.at c.args.draw state c.known.ensures c.known-2.ensures moment last c.book-book.ensures.sound)) c.decide_over.ensures)
+    (IfOk-weaker c.decide_over.result _ _ (λ r is. subst IsSound (sym (ap (λ (x : State × Reply). x.0) is.step)) (step_sound c.args.command.now c.args.at c.args.draw state c.recall_invariant.ensures c.recall_invariant-2.ensures moment last c.book-book.ensures.sound)) c.decide_over.ensures)

@@ -10,4 +10,4 @@ returns-clause-stands g c = λ sure.
 pub returns-clause-running : goal.returns-clause-running
 returns-clause-running g c = λ sure r running.
     runs-on g.T.Tables.holds g.T.Tables.may_leave (g.W.Wording.words c.args.self.now.wording) c.args.arrival c.requires c.args.self.now.tables c.write-answer.new.self.tables c.args.self.now.state c.write-answer.new.self.state r running
-    (c.write-answer.ensures.crash sure) c.write-answer.result c.known.ensures (c.write-answer.ensures.answered sure r.shop running.views) (c.write-answer.ensures.settled sure)
+    (c.write-answer.ensures.crash sure) c.write-answer.result c.recall_invariant.ensures (c.write-answer.ensures.answered sure r.shop running.views) (c.write-answer.ensures.settled sure)

@@ -1,5 +1,0 @@
-use Rattle.draft_overlay.proofs.Kept.{kept_after_all}
-use Rattle.draft_overlay.proofs.overlay.Overlay.known.Goals as goal
-
-pub returns-clause-kept : goal.returns-clause-kept
-returns-clause-kept g c = rw (← c.self.view_is) (kept_after_all _ _ _ c.known.ensures)
