@@ -87,15 +87,6 @@ impl Counters {
     }
 }
 
-const NOTHING: Usage = Usage {
-    paid: 0,
-    pending: 0,
-    blocked: 0,
-    carts: 0,
-    waiting: 0,
-    exited: 0,
-};
-
 impl Counters {
     /// What uses a quota at a moment that isn't before the book's.
     pub fn usage_later<L: Ledger>(&self, quota: &Quota, at: Moment, steps: &mut Steps<L>) -> Usage
@@ -119,7 +110,7 @@ impl Counters {
                     steps,
                 )
             }
-            Err(_) => NOTHING,
+            Err(_) => Usage::NONE,
         }
     }
 }

@@ -21,15 +21,6 @@ use book_usage::rules::{
 use model_catalogue::Quota;
 use model_rows::{CartPos, OrderPos, Usage, Voucher, Waiting};
 
-const NOTHING: Usage = Usage {
-    paid: 0,
-    pending: 0,
-    blocked: 0,
-    carts: 0,
-    waiting: 0,
-    exited: 0,
-};
-
 // An order position comes.
 #[derive(Drop)]
 struct PositionComes<'s> {
@@ -253,7 +244,7 @@ fn clear_usages(quotas: &[Quota], usages: &mut Vec<Usage>)
     usages.clear();
     for quota in quotas {
         let _ = quota;
-        push_reserved(usages, NOTHING);
+        push_reserved(usages, Usage::NONE);
     }
 }
 

@@ -28,15 +28,6 @@ use book_usage::rules::left_of;
 use model_catalogue::Quota;
 use model_rows::{Change, Changes, CountRows, OrderPos, QuotaCount, Usage, Voucher, VoucherCount};
 
-const NOTHING: Usage = Usage {
-    paid: 0,
-    pending: 0,
-    blocked: 0,
-    carts: 0,
-    waiting: 0,
-    exited: 0,
-};
-
 // Puts each of these counts beside its quota.
 fn set_usages(quotas: &[Quota], usages: &mut Vec<Usage>, counts: &[QuotaCount])
     requires order { AreInOrder (λ q. q.id) quotas.now }
@@ -86,7 +77,7 @@ fn keep_usages(store: &Store, usages: &mut Vec<Usage>, change: &Change)
     let catalogue = store.catalogue();
     catalogue.recall_invariant();
     match change {
-        Change::PutQuota(row) => keep_place(catalogue.quotas(), usages, row.id, NOTHING),
+        Change::PutQuota(row) => keep_place(catalogue.quotas(), usages, row.id, Usage::NONE),
         _ => {}
     }
 }

@@ -151,6 +151,18 @@ pub struct Usage {
     pub exited: u64,
 }
 
+impl Usage {
+    /// Nothing is used.
+    pub const NONE: Usage = Usage {
+        paid: 0,
+        pending: 0,
+        blocked: 0,
+        carts: 0,
+        waiting: 0,
+        exited: 0,
+    };
+}
+
 /// The ids that the next row of each table gets.
 #[derive(Clone, Copy, PartialEq, Eq)]
 pub struct NextIds {
