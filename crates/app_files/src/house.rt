@@ -22,7 +22,7 @@ use std::alloc::{AllocError, Global};
 use std::marker::PhantomData;
 use std::net::{Net, TcpListener, TcpStream};
 use std::time::Clock;
-use web_cli::{Console, HouseFiles, ServeOptions, Report, RunFault};
+use web_cli::{Console, HouseFiles, Report, RunFault, ServeOptions};
 use web_server::{Log, System};
 
 /// The commands on shops' files: over the files of a shelf, on a system with a clock, chance and a network. Each opens its file, does what

@@ -65,15 +65,16 @@ pub fn callers_go_on_after_a_crash<S: Alter, K: Ticks>(
         (organizer event : List ℕ) (s : State)
         → let tables = trait_meaning ⟦<SqlTables<S> as Tables>⟧
         in let end = between reported (handler_with last.now organizer event s)
-        in Connections (AtTick K.reads (Serves tables)) came first end all → IsOf tables house first.handler
-        → IsRunningAs tables house first.handler r
+        in Connections (AtTick K.reads (Serves tables)) came first end all
+        → IsOf tables house first.handler → IsRunningAs tables house first.handler r
         → IsFound (state S.Store last.now.connection) (state S.Store fresh.now)
         → (name happening : List ℕ) (z : State)
         → OpensAs S.Store (state S.Store fresh.now) (handler_with again.now name happening z)
         → HasCleanDisk (state S.Store again.now.connection)
         → (q : Running) × (x : ShopView)
-        × Connections (AtTick K.reads (ServesRunning house)) came (seen_at first r) (seen_at end q) all
-        × MayLeave (words_of house) q x × IsOf tables house (handler_with again.now name happening z)
+        × Connections (AtTick K.reads (ServesRunning house)) came (seen_at first r)
+        (seen_at end q) all × MayLeave (words_of house) q x
+        × IsOf tables house (handler_with again.now name happening z)
         × IsRunningAs tables house (handler_with again.now name happening z)
         (running_from (words_of house) x) }
     ensures unharmed { (house : House) (r : Running) (came : ℕ) (all : History)
@@ -81,8 +82,8 @@ pub fn callers_go_on_after_a_crash<S: Alter, K: Ticks>(
         (organizer event : List ℕ) (s : State)
         → let tables = trait_meaning ⟦<SqlTables<S> as Tables>⟧
         in Connections (AtTick K.reads (Serves tables)) came first
-        (between reported (handler_with last.now organizer event s)) all → IsOf tables house first.handler
-        → IsRunningAs tables house first.handler r
+        (between reported (handler_with last.now organizer event s)) all
+        → IsOf tables house first.handler → IsRunningAs tables house first.handler r
         → IsFound (state S.Store last.now.connection) (state S.Store fresh.now)
         → (error : OpenError) → IsReason (state S.Store fresh.now).now error → IsOfMachine error }
 {
@@ -139,26 +140,29 @@ pub fn an_evening_is_one_history<S: Alter, K: Ticks>(
     fresh: &Connection<S>,
     again: &SqlTables<S>,
 )
-    ensures { (house : House) (begun r : Running) (es : List Event) (n m : ℕ) (before after : History)
-        (first end : Between (HandlerView (SqlTables S))) (reported : Option (List Tick))
-        (a b c d : HandlerView (SqlTables S)) (words : Reply → Response) (command : Command)
-        (tick : Tick) (outcome : Result (List ℕ) RunFault)
+    ensures { (house : House) (begun r : Running) (es : List Event) (n m : ℕ)
+        (before after : History) (first end : Between (HandlerView (SqlTables S)))
+        (reported : Option (List Tick)) (a b c d : HandlerView (SqlTables S))
+        (words : Reply → Response) (command : Command) (tick : Tick)
+        (outcome : Result (List ℕ) RunFault)
         → let tables = trait_meaning ⟦<SqlTables<S> as Tables>⟧
         in RunsSo tables house begun es first.handler r
-        → Connections (AtTick K.reads (Serves tables)) n first (between reported (over served.now a)) before
+        → Connections (AtTick K.reads (Serves tables)) n first
+        (between reported (over served.now a)) before
         → IsOpenedAgain S.Store (state S.Store served.now.connection) (state S.Store closed.now)
         (over opened_for.now b)
         → Acts words command tick tables (over opened_for.now b) (over acted.now c) outcome
         → IsOpenedAgain S.Store (state S.Store acted.now.connection) (state S.Store fresh.now)
-        (over again.now d)
-        → Connections (AtTick K.reads (Serves tables)) m (between None (over again.now d)) end after
+        (over again.now d) → Connections (AtTick K.reads (Serves tables)) m
+        (between None (over again.now d)) end after
         → HasCleanDisk (state S.Store end.handler.tables.connection)
         → (fs : List Event) × (x : ShopView) × (answer : Answer) × (gs : List Event) × (q : Running)
-        × Connections (AtTick K.reads (ServesHistory house)) n (seen_at first es) (between reported fs) before
-        × (outcome ≡ told_of answer)
+        × Connections (AtTick K.reads (ServesHistory house)) n (seen_at first es)
+        (between reported fs) before × (outcome ≡ told_of answer)
         × Connections (AtTick K.reads (ServesHistory house)) m (between None
         (((fs ++ Crashed ∷ []) ++ event_of (words_of house) (own_arrival command tick) answer x
-        ∷ []) ++ Crashed ∷ [])) (seen_at end gs) after × RunsSo tables house begun gs end.handler q }
+        ∷ []) ++ Crashed ∷ [])) (seen_at end gs) after
+        × RunsSo tables house begun gs end.handler q }
 {
     callers_go_on_with_a_history::<SqlTables<S>, K>();
     a_history_goes_on_after_a_crash::<S, K>(served, closed, opened_for);

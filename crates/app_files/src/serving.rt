@@ -17,7 +17,7 @@ use sqlite::{Alter, Connection};
 use std::alloc::Global;
 use std::net::{Net, TcpListener, TcpStream};
 use std::time::Clock;
-use web_cli::{Console, ServeOptions, RunFault};
+use web_cli::{Console, RunFault, ServeOptions};
 use web_handler::{HttpWording, ShopHandler};
 use web_server::{Log, Logged, System, run_over_tcp};
 

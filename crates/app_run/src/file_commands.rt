@@ -9,7 +9,8 @@ use base_values::{Body, is_slug};
 use itoa::Buffer;
 use std::alloc::Global;
 use web_cli::{
-    Argument, HouseFiles, ServeOptions, Report, RunFault, ServeLine, end_said, is_token, say, read_options,
+    Argument, HouseFiles, Report, RunFault, ServeLine, ServeOptions, end_said, is_token,
+    read_options, say,
 };
 use web_http::write_all;
 

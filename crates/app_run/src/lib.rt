@@ -4,17 +4,17 @@
 //! work on a shop's file.
 #![tactic(auto)]
 
+pub mod dispatch;
 pub mod feeding;
 pub mod file_commands;
-pub mod memory_shop;
 pub mod laws;
-pub mod dispatch;
+pub mod memory_shop;
 pub mod opening;
 pub mod typed;
 
+pub use dispatch::run;
 pub use feeding::{feed, feed_texts};
 pub use file_commands::{add_token, export_shop, make_shop, report_shop, run_serve, work_shop};
 pub use memory_shop::run_memory_shop;
-pub use dispatch::run;
 pub use opening::{open_memory, open_store};
 pub use typed::add_typed_token;

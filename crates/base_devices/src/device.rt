@@ -73,7 +73,8 @@ pub trait Ticks {
     fn tick(&mut self) -> Result<Tick, Refused>
         ensures read { IfOk result (λ t. reads (Some t)) }
         ensures unread { OnErr result (reads None) }
-        ensures reported { IfOk result (λ t. Adds (reported self.old) (t ∷ []) (reported self.new)) }
+        ensures reported { IfOk result
+            (λ t. Adds (reported self.old) (t ∷ []) (reported self.new)) }
         ensures kept { OnErr result (Adds (reported self.old) [] (reported self.new)) }
         ensures well { OnOk result (failures self.new ≡ failures self.old) }
         ensures failed { OnErr result (failures self.new ≡ failures self.old + 1) };

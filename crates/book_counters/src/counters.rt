@@ -14,14 +14,14 @@ ghost use Rattle.book_counts_applied.specs.Spared.{spares_used};
 
 use base_tables::place_of;
 use base_values::{Moment, Steps};
-use book_counts_over_time::holds::held_by;
-use book_counts_over_time::spends::spent_in;
-use book_counts_over_time::redemptions::redeemed_in;
-use book_counts_over_time::usage_later::later;
 use book_counts_applied::again::count_again;
 use book_counts_applied::counted::Counted;
 use book_counts_applied::settle::settle;
 use book_counts_applied::spared::spare_used;
+use book_counts_over_time::holds::held_by;
+use book_counts_over_time::redemptions::redeemed_in;
+use book_counts_over_time::spends::spent_in;
+use book_counts_over_time::usage_later::later;
 use book_store::{Ended, Store};
 use model_catalogue::Quota;
 use model_rows::{Changes, CountRows, NextIds, Usage};

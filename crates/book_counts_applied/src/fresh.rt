@@ -11,9 +11,9 @@ ghost use Rattle.book_counts_applied.specs.Fresh.{AllShifted, after_each, positi
 ghost use Rattle.book_counts_applied.specs.Settled.{nothing, AreSmall};
 
 use base_values::Moment;
+use book_counts_over_time::redemptions::{redeemed_in, vouchers};
 use book_counts_over_time::shift::{UsageUpdate, count_moved};
 use book_counts_over_time::touched::{shift_hit, shift_product};
-use book_counts_over_time::redemptions::{redeemed_in, vouchers};
 use book_store::Store;
 use book_usage::rules::{
     blocked_share, cart_share, exited_share, paid_share, pending_share, waiting_share,

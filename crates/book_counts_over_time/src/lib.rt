@@ -2,8 +2,8 @@
 #![tactic(auto)]
 
 pub mod holds;
+pub mod redemptions;
 pub mod shift;
 pub mod spends;
 pub mod touched;
-pub mod redemptions;
 pub mod usage_later;

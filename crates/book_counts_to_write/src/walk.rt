@@ -17,7 +17,7 @@ use crate::recounts::recount;
 use crate::told::{add_unless, has_voucher, moved, moved_cents, same_as, usage_shifted};
 use base_tables::{Ids, place_of};
 use base_values::Moment;
-use book_tally::{QuotaDelta, CountDeltas, VoucherDelta};
+use book_tally::{CountDeltas, QuotaDelta, VoucherDelta};
 use book_usage::{Book, usage_of};
 use model_catalogue::Quota;
 use model_rows::{Change, QuotaCount, Usage, VoucherCount};

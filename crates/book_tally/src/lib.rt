@@ -8,5 +8,5 @@ pub mod deltas;
 pub mod tally;
 
 pub use amount::{Amount, Uses};
-pub use deltas::{Drafted, QuotaDelta, CountDeltas, VoucherDelta};
+pub use deltas::{CountDeltas, Drafted, QuotaDelta, VoucherDelta};
 pub use tally::{Count, Tally};

@@ -400,8 +400,8 @@ impl<'a, B: Book> Draft<'a, B> {
     pub fn finish(self, alloc: Global) -> Result<Drafted, AllocError>
         ensures list { IfOk result (λ d. d.changes.list ≡ self.entry.log.changes) }
         ensures next { IfOk result (λ d. d.changes.next ≡ self.entry.next) }
-        ensures deltas { IfOk result (λ d.
-            AreCountDeltas self.entry.log.base (rows_of self.entry.log) self.entry.moment d.deltas) }
+        ensures deltas { IfOk result (λ d. AreCountDeltas self.entry.log.base
+            (rows_of self.entry.log) self.entry.moment d.deltas) }
     {
         let Draft {
             book,

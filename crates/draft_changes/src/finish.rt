@@ -9,7 +9,7 @@ ghost use Rattle.draft_changes.specs.Handed.{vouchers_by, AreNoted, quota_shift,
 
 use base_tables::Ids;
 use base_values::Moment;
-use book_tally::{Amount, QuotaDelta, CountDeltas, Tally, Uses, VoucherDelta};
+use book_tally::{Amount, CountDeltas, QuotaDelta, Tally, Uses, VoucherDelta};
 use book_usage::{Book, LookUps};
 use draft_counts::{Overlay, Tallies};
 use model_catalogue::Quota;
@@ -41,7 +41,8 @@ pub fn shifts_of<B: Book>(
     requires counted { IsCounted at overlay.now tallies.now.counts }
     requires kept { AreKept at overlay.now tallies.now.uses }
     requires noted { AreNoted overlay.now.changes noted.now }
-    ensures { IfOk result (λ deltas. AreCountDeltas overlay.now.base (rows_of overlay.now) at deltas) }
+    ensures { IfOk result
+        (λ deltas. AreCountDeltas overlay.now.base (rows_of overlay.now) at deltas) }
 {
     let _ = at;
     overlay.recall_invariant();

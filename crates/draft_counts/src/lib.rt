@@ -1,8 +1,8 @@
 //! What does a change bring to each count of a quota and to a voucher's uses, and what does it take?
 #![tactic(auto)]
 
-mod count_base;
 mod checkins;
+mod count_base;
 mod numbers;
 mod orders;
 mod share;

@@ -11,8 +11,8 @@ ghost use Rattle.draft_counts.specs.Tallied.{CountsChange};
 ghost use Rattle.draft_counts.specs.Touched.{NoOther, NoneElse, Keeps};
 ghost use Rattle.draft_counts.specs.CountDelta.{count_here, count_covered, count_released, is_free_in, order_counts, keeps_status, AreTurned};
 
-use crate::count_base::CountBase;
 use crate::checkins::is_free_in;
+use crate::count_base::CountBase;
 use crate::share::{Share, Shares, count_each};
 use crate::shift::{Spot, voucher_of};
 use crate::touched::{touch_product, touch_voucher};
@@ -190,7 +190,8 @@ pub fn with_order<B: Book>(
     row: &Order,
     purchases: &[Purchase],
 ) -> Result<(), AllocError>
-    requires turned { AreTurned (PutOrder row.now) (rows_of count_base.now.overlay.now) purchases.now }
+    requires turned { AreTurned (PutOrder row.now)
+        (rows_of count_base.now.overlay.now) purchases.now }
     ensures more { OnOk result (CountsChange (PutOrder row.now) count_base.now.overlay.now
         count_base.now.at count_base.now.catalogue.now counts.old counts.new) }
     ensures err { OnErr result (counts.new ≡ counts.old) }

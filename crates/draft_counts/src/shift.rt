@@ -18,8 +18,8 @@ ghost use Rattle.draft_counts.specs.Tallied.{CountsChange};
 ghost use Rattle.draft_counts.specs.Touched.{NoOther, NoneElse, Keeps};
 ghost use Rattle.draft_counts.specs.CountDelta.{once, spot_share, spot_counts, usage_of_places, cart_come, cart_gone, waiting_come, waiting_gone, sold_as, left_of, voucher_counts, voucher_come, voucher_gone, AreTurned};
 
-use crate::count_base::CountBase;
 use crate::checkins::with_checkin;
+use crate::count_base::CountBase;
 use crate::orders::with_order;
 use crate::share::{Share, Shares, count_each};
 use crate::touched::{touch_product, touch_voucher};
@@ -203,14 +203,18 @@ fn with_cart<B: Book>(
     id: u64,
     come: Option<&CartPos>,
 ) -> Result<(), AllocError>
-    ensures more { OnOk result (IsMore
-        (cart_come (rows_of count_base.now.overlay.now) count_base.now.at (option_copied come.entry))
+    ensures more { OnOk result (IsMore (cart_come
+        (rows_of count_base.now.overlay.now) count_base.now.at (option_copied come.entry))
         (cart_gone (rows_of count_base.now.overlay.now) count_base.now.at id)
         count_base.now.catalogue.now.lists.quotas counts.old counts.new) }
     ensures err { OnErr result (counts.new ≡ counts.old) }
 {
     let come = cart_spot(count_base.overlay, count_base.at, come);
-    let gone = cart_spot(count_base.overlay, count_base.at, count_base.overlay.cart(id));
+    let gone = cart_spot(
+        count_base.overlay,
+        count_base.at,
+        count_base.overlay.cart(id),
+    );
     let waits = false;
     count_each(
         counts,
@@ -445,10 +449,11 @@ fn with_voucher<B: Book>(
     id: u64,
     come: Option<&Voucher>,
 ) -> Result<(), AllocError>
-    ensures more { OnOk result (IsMore
-        (voucher_come (rows_of count_base.now.overlay.now) count_base.now.at id (option_copied come.entry))
-        (voucher_gone (rows_of count_base.now.overlay.now) count_base.now.at id (option_copied come.entry))
-        count_base.now.catalogue.now.lists.quotas counts.old counts.new) }
+    ensures more { OnOk result (IsMore (voucher_come
+        (rows_of count_base.now.overlay.now) count_base.now.at id (option_copied come.entry))
+        (voucher_gone (rows_of count_base.now.overlay.now) count_base.now.at id
+        (option_copied come.entry)) count_base.now.catalogue.now.lists.quotas counts.old
+        counts.new) }
     ensures err { OnErr result (counts.new ≡ counts.old) }
 {
     let gone = count_base.overlay.voucher(id);

@@ -141,7 +141,13 @@ impl Tallies {
             at,
             catalogue,
         };
-        count_both(&count_base, &mut self.counts, &mut self.uses, change, &purchases)?;
+        count_both(
+            &count_base,
+            &mut self.counts,
+            &mut self.uses,
+            change,
+            &purchases,
+        )?;
         self.reached.push(reach)?;
         self.here = RowCounts { carts, vouchers };
         Ok(())

@@ -88,9 +88,10 @@ fn count_turned<B: Book>(
     row: &Order,
     purchases: &[Purchase],
 ) -> Result<(), AllocError>
-    requires turned { AreTurned (PutOrder row.now) (rows_of count_base.now.overlay.now) purchases.now }
-    ensures more { OnOk result
-        (CountsUses (PutOrder row.now) count_base.now.overlay.now count_base.now.at uses.old uses.new) }
+    requires turned { AreTurned (PutOrder row.now)
+        (rows_of count_base.now.overlay.now) purchases.now }
+    ensures more { OnOk result (CountsUses
+        (PutOrder row.now) count_base.now.overlay.now count_base.now.at uses.old uses.new) }
     ensures err { OnErr result (uses.new ≡ uses.old) }
 {
     let force = row.status.is_in_force();

@@ -4,8 +4,8 @@ ghost use Rattle.std.specs.Prelude.{◌≡◌, ◌↔◌, IsTrue};
 ghost use Rattle.model_damage.specs.Rules.{IsHeaded};
 ghost use Rattle.model_damage.specs.Told.{file_of};
 
-use model_invariant::next_ids::are_next_ids;
 use model_damage::FileRows;
+use model_invariant::next_ids::are_next_ids;
 
 /// Whether the slugs are slugs, and the moment and the next ids are in range. Of the slugs and the moment their types
 /// promise it.

@@ -9,8 +9,8 @@ use crate::headroom::keeps_headroom;
 use crate::names::keeps_names;
 use crate::orders::keeps_positions;
 use book_usage::Book;
-use model_rows::{QuotaCount, VoucherCount};
 use model_damage::Rule;
+use model_rows::{QuotaCount, VoucherCount};
 use std::alloc::{AllocError, Global};
 
 /// The least rule that a file breaks of which the first three are kept: 4 names, 5 positions, 6 headroom, 7 counters, 8 budgets. The

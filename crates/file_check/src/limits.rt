@@ -11,8 +11,8 @@ use crate::ids::are_from_one;
 use base_values::codes::LAST_ORDER;
 use base_values::{Cents, Known, PriceMode};
 use model_catalogue::{Item, MOST_ROWS, Quota, Variation};
-use model_rows::{CartPos, Checkin, CheckinList, Order, OrderPos, Voucher, Waiting};
 use model_damage::FileRows;
+use model_rows::{CartPos, Checkin, CheckinList, Order, OrderPos, Voucher, Waiting};
 
 /// A row whose values have limits.
 trait Limited {

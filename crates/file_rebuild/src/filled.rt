@@ -9,11 +9,11 @@ use crate::put::put_rows;
 use base_values::{Moment, Slug};
 use book_usage::Book;
 use model_catalogue::{Item, Quota, Variation};
+use model_damage::FileRows;
 use model_rows::{
     CartPos, Checkin, CheckinList, NextIds, Order, OrderPos, QuotaCount, Voucher, VoucherCount,
     Waiting,
 };
-use model_damage::FileRows;
 use std::alloc::{AllocError, Global};
 
 /// What a file tells beside the rows of its office: whose shop it is, and the counts of its quotas and vouchers.

@@ -300,8 +300,8 @@ fn read_first<S: Alter, P: Progress>(
     progress: &mut P,
 ) -> Result<TableRows, RowError>
     requires { conn.old.in_transaction ≡ false }
-    ensures reads { ReadsTables 1 HoldsVersion1 AreFitTables HasVersion1 LacksVersion1 HasVersion1Damage
-        S.Store conn.old conn.new result }
+    ensures reads { ReadsTables 1 HoldsVersion1 AreFitTables HasVersion1 LacksVersion1
+        HasVersion1Damage S.Store conn.old conn.new result }
     ensures none { IfOk result (λ rows. HasNoVersion2 rows × HasNoVersion3 rows) }
 {
     match TableRows::read(alloc, conn, progress) {
@@ -336,12 +336,15 @@ fn read_third<S: Alter, P: Progress>(
     progress: &mut P,
 ) -> Result<TableRows, RowError>
     requires { conn.old.in_transaction ≡ false }
-    ensures { ReadsTables 3 HoldsThree AreFitTables (Both HasVersion1 (Both HasVersion2 HasVersion3))
+    ensures { ReadsTables 3 HoldsThree AreFitTables
+        (Both HasVersion1 (Both HasVersion2 HasVersion3))
         (Either LacksVersion1 (Either LacksVersion2 LacksVersion3))
-        (Either HasVersion1Damage (Either AreVersion2Damaged AreVersion3Damaged))
-        S.Store conn.old conn.new result }
+        (Either HasVersion1Damage (Either AreVersion2Damaged AreVersion3Damaged)) S.Store conn.old
+        conn.new result }
 {
-    let read: Result<(TableRows, (Version2Rows, Version3Rows)), RowError> = read_both(alloc, conn, progress);
+    let read: Result<(TableRows, (Version2Rows, Version3Rows)), RowError> = read_both(
+        alloc, conn, progress,
+    );
     match read {
         Ok((tables, (version2, version3))) => Ok(with_later(tables, version2, version3)),
         Err(error) => Err(error),

@@ -6,8 +6,8 @@ ghost use Rattle.office_other.specs.Machine.{CanBegin, IsStep};
 use base_values::{Draw, Moment};
 use book_usage::Book;
 use model_commands::{Command, Reply};
-use office_sales::sales;
 use office_other::{Drafted, catalogue, doors, waiting};
+use office_sales::sales;
 use std::alloc::{AllocError, Global};
 
 /// What a command is answered over a book that is sound, and the changes that it makes.

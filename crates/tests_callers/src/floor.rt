@@ -6,8 +6,8 @@ use base_devices::Ticks;
 use std::alloc::{AllocError, Global};
 use std::sync::ledger::Ledger;
 use web_connection::Handler;
+use web_connections::{Connections, Context, Next};
 use web_sockets::Script;
-use web_connections::{Context, Connections, Next};
 
 /// The connections over memory, who is still to come, the last of them first, and what each caller was told who left.
 #[derive(Drop)]
@@ -18,7 +18,10 @@ pub(crate) struct Floor<'a> {
 }
 
 // Whoever is to come, the last of them first.
-fn callers_to_come<'a>(alloc: Global, guests: &'a [Guest<'a>]) -> Result<Vec<Script<'a>>, AllocError> {
+fn callers_to_come<'a>(
+    alloc: Global,
+    guests: &'a [Guest<'a>],
+) -> Result<Vec<Script<'a>>, AllocError> {
     let mut all = Vec::new(alloc);
     for guest in guests.iter().rev() {
         all.push(Script::new(
@@ -50,7 +53,11 @@ impl<'a> Floor<'a> {
         let connections = Connections::new(alloc, slots)?;
         let callers_to_come = callers_to_come(alloc, guests)?;
         let told = empty_texts(alloc, guests.len())?;
-        Ok(Floor { connections, callers_to_come, told })
+        Ok(Floor {
+            connections,
+            callers_to_come,
+            told,
+        })
     }
 
     // Whoever is at a slot leaves. What it was told is kept under its number.

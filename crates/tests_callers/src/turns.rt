@@ -10,12 +10,16 @@ use base_devices::Ticks;
 use std::alloc::Global;
 use std::sync::ledger::Ledger;
 use web_connection::Handler;
+use web_connections::{Connections, Context, Next};
 use web_sockets::Ends;
-use web_connections::{Context, Connections, Next};
 
 // The last of those who are to come, to a slot that is free.
 #[tactic(auto, using(crate::proofs::ComeLemmas::nobody_came, crate::proofs::ComeLemmas::one_came))]
-fn accept_next<E: Ends>(alloc: Global, connections: &mut Connections<E>, callers_to_come: &mut Vec<E>)
+fn accept_next<E: Ends>(
+    alloc: Global,
+    connections: &mut Connections<E>,
+    callers_to_come: &mut Vec<E>,
+)
     ensures { (came : List Begun) × AcceptsOne came connections.old connections.new }
 {
     let Some(slot) = connections.free_slot() else {

@@ -80,10 +80,10 @@ pub fn runs_are_alike<T: Tables, U: Tables>()
 /// However a stream is cut into reads: of two runs over the same bytes that end well, with the same ticks, from the same shop,
 /// each over tables of its own, in which nothing is answered 503, both write the same and lead to the same shop.
 pub fn cuts_are_alike<T: Tables, U: Tables>()
-    ensures { (house : House) (v : ShopView) (bytes : List ℕ) (ticks : List Tick)
-        (written : List ℕ) (old new : Devices (HandlerView T)) (other newer : Devices (HandlerView U))
-        → let tables = trait_meaning T.Tables in let others = trait_meaning U.Tables in
-        RunsWhole tables house v bytes ticks written old new
+    ensures { (house : House) (v : ShopView) (bytes : List ℕ) (ticks : List Tick) (written : List ℕ)
+        (old new : Devices (HandlerView T)) (other newer : Devices (HandlerView U))
+        → let tables = trait_meaning T.Tables in let others = trait_meaning U.Tables
+        in RunsWhole tables house v bytes ticks written old new
         → RunsWhole others house v bytes ticks written other newer → new.reported ≡ newer.reported
         → (new.taken ≡ newer.taken)
         × ((w : ShopView) × HasShop tables new.handler w × HasShop others newer.handler w) }

@@ -27,7 +27,7 @@ pub use files::{HouseFiles, ServeOptions};
 pub use line::{answer_line, tell_fault, tell_report, tell_run, tell_words};
 pub use saying::{end_said, say};
 pub use ticks::{FeedTicks, Pace};
-pub use values::{Report, ReportFault, feed_values, is_token, report_of, read_options};
+pub use values::{Report, ReportFault, feed_values, is_token, read_options, report_of};
 pub use words::{
     FeedLine, FileLine, ImportLine, InitLine, Line, ReportLine, ServeLine, TokenLine, plain_words,
     program_version, read_line,

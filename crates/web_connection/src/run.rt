@@ -4,9 +4,9 @@ ghost use Rattle.std.specs.Prelude.{◌≡◌, ◌+◌, []};
 ghost use Rattle.web_connection.specs.Run.{AtTick, CountedIn, IsReadBuffer, TakesIn};
 ghost use Rattle.web_connection.specs.Outside.{RunsFrom, RunsOver, outside};
 
-use crate::handler::Handler;
-use crate::failure::Failure;
 use crate::buffers::Buffers;
+use crate::failure::Failure;
+use crate::handler::Handler;
 use crate::step::answer_ready;
 use base_devices::device::{Drain, Source, Ticks};
 use std::alloc::Global;

@@ -2,8 +2,8 @@
 
 ghost use Rattle.web_connection.specs.Run.{AtTick, Steps, ServesReady, Counted, cursor};
 
-use crate::handler::Handler;
 use crate::failure::{Failure, Step};
+use crate::handler::Handler;
 use base_devices::device::{Drain, Ticks};
 use std::alloc::Global;
 use web_http::frames::Frames;

@@ -7,8 +7,8 @@ ghost use Rattle.web_connections.specs.Exchanges.{connection_begun};
 ghost use Rattle.web_connections.specs.Connections.{FindsFree, IsFree, TurnsAt, at_slot, callers, leaves_with, slot_needs, slot_unsent, with_caller, with_slot};
 
 use crate::context::Context;
-use crate::slot::Slot;
 use crate::phase::Needs;
+use crate::slot::Slot;
 use base_devices::{Refused, Ticks};
 use std::alloc::{AllocError, Global};
 use std::marker::Model;

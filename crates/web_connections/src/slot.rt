@@ -6,9 +6,9 @@ ghost use Rattle.web_connections.specs.Contexts.{KeepsLent, between_at};
 ghost use Rattle.web_connections.specs.Exchanges.{connection_begun};
 ghost use Rattle.web_connections.specs.Connections.{IsSpare, TakesTurn, caller, leaves_with, slot_needs, slot_unsent};
 
+use crate::connection::Connection;
 use crate::context::Context;
 use crate::phase::Needs;
-use crate::connection::Connection;
 use base_devices::{Refused, Ticks};
 use std::alloc::{AllocError, Global};
 use std::marker::Model;

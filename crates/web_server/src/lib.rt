@@ -3,11 +3,11 @@
 
 pub mod clock;
 pub mod host;
-mod server;
+mod lingering;
 pub mod listening;
 pub mod log;
 pub mod logged;
-mod lingering;
+mod server;
 pub mod serving;
 pub mod tcp_network;
 mod timeouts;
@@ -16,7 +16,7 @@ pub use clock::{ClockTicks, System, read_tick};
 pub use host::Host;
 pub use listening::{listen_and_run, run_over_tcp};
 pub use log::Log;
-pub use logged::{NamesCaller, Logged};
+pub use logged::{Logged, NamesCaller};
 pub use serving::run_event_loop;
 pub use tcp_network::TcpNetwork;
 pub use web_callers::laws;

@@ -31,7 +31,12 @@ pub(crate) struct Lingerers {
 }
 
 // Has nothing more be written to a stream, and waits for what it brings.
-fn close(mut stream: TcpStream, registry: &Registry, token: Token, now: u64) -> io::Result<Lingering> {
+fn close(
+    mut stream: TcpStream,
+    registry: &Registry,
+    token: Token,
+    now: u64,
+) -> io::Result<Lingering> {
     stream.shutdown(Shutdown::Write)?;
     registry.reregister(&mut stream, token, Interest::READABLE)?;
     Ok(Lingering {

@@ -22,7 +22,7 @@ use std::marker::Brand;
 use std::net::{Net, TcpListener, TcpStream};
 use std::sync::ledger::{Blank, Ledger};
 use std::time::Clock;
-use web_cli::{Console, ServeOptions, RunFault, end_said, say};
+use web_cli::{Console, RunFault, ServeOptions, end_said, say};
 use web_connection::Handler;
 use web_sockets::{Ends, Network};
 
@@ -43,8 +43,8 @@ fn run_network<
     requires blank { IsBlankOf M.Ledger blank }
     ensures listens { N.listens network.new ≡ N.listens network.old }
     ensures answers { AnswersCallers (AtTick (IsRead R.shows R.gives) D.serves)
-        (most_of connections) (between None handler.old) (between None handler.new) (N.came network.old)
-        (N.came network.new) result }
+        (most_of connections) (between None handler.old) (between None handler.new)
+        (N.came network.old) (N.came network.new) result }
 {
     let failures = Steps::<M>::new(blank);
     let rt = host.rt;
@@ -55,7 +55,13 @@ fn run_network<
 /// Listens at an address, says so, and answers the callers that come, many of them at once, by the system's clock and its draws. Faults: 81
 /// where the address can't be listened at, and then nothing is said; 83 where that couldn't be said, and then nobody is answered; 81 and 6
 /// as `serve_callers`.
-pub fn listen_and_run<R: Clock + System + Console, E: Ends, N: Network<E>, D: Handler + NamesCaller, W: Drain>(
+pub fn listen_and_run<
+    R: Clock + System + Console,
+    E: Ends,
+    N: Network<E>,
+    D: Handler + NamesCaller,
+    W: Drain,
+>(
     host: &Host<'_, R>,
     network: &mut N,
     options: &ServeOptions<'_>,

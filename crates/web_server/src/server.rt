@@ -11,7 +11,7 @@ ghost use Rattle.web_server.specs.Rounds.{Clears, Rearranged, Reassigns};
 ghost use Rattle.web_sockets.specs.Accepting.{as_begun};
 
 use crate::clock::System;
-use crate::log::{Log, Closed};
+use crate::log::{Closed, Log};
 use crate::logged::NamesCaller;
 use crate::timeouts::{Load, Timer};
 use base_devices::Ticks;
@@ -20,8 +20,8 @@ use std::sync::ledger::Ledger;
 use std::time::Clock;
 use web_cli::{Console, RunFault};
 use web_connection::Handler;
+use web_connections::{Connections, Context, Needs};
 use web_sockets::{Accepted, Ends, Event, Network};
-use web_connections::{Context, Connections, Needs};
 
 /// How many callers are there at once at most.
 pub(crate) const SLOTS: usize = 128;
@@ -46,7 +46,8 @@ pub(crate) struct Server<'a, R, E: Ends> {
 impl<'a, R: Clock + System + Console, E: Ends> Server<'a, R, E> {
     /// A server into which nobody came yet.
     pub(crate) fn new(alloc: Global, log: &'a Log<'a, R>, left: u64) -> Result<Self, AllocError>
-        ensures connections { IfOk result (λ server. server.connections ≡ callers 0 (replicate 128 None)) }
+        ensures connections { IfOk result
+            (λ server. server.connections ≡ callers 0 (replicate 128 None)) }
         ensures left { IfOk result (λ server. server.left ≡ left) }
     {
         let connections = Connections::new(alloc, SLOTS)?;
@@ -150,7 +151,8 @@ impl<'a, R: Clock + System + Console, E: Ends> Server<'a, R, E> {
 
     // The slot whose caller has to go first where another one comes: one of the greater group, of those within a request and those between two.
     fn first_to_go(&self, now: u64) -> Option<usize>
-        ensures { GoesFirst (readiness_at self.now.timers.items self.now.connections now) 128 result }
+        ensures { GoesFirst
+            (readiness_at self.now.timers.items self.now.connections now) 128 result }
     {
         let load = self.load();
         let mut found = None;
@@ -253,8 +255,8 @@ impl<'a, R: Clock + System + Console, E: Ends> Server<'a, R, E> {
     ) -> Result<bool, RunFault>
         requires { 0 < self.old.left }
         ensures listens { N.listens network.new ≡ N.listens network.old }
-        ensures reassigns { Reassigns self.old.connections self.new.connections self.old.left self.new.left
-            (N.came network.old) (N.came network.new) }
+        ensures reassigns { Reassigns self.old.connections self.new.connections self.old.left
+            self.new.left (N.came network.old) (N.came network.new) }
         ensures ends { IsOkUnless result Listen }
     {
         match network.accept_next() {
@@ -283,8 +285,8 @@ impl<'a, R: Clock + System + Console, E: Ends> Server<'a, R, E> {
         now: u64,
     ) -> Result<(), RunFault>
         ensures listens { N.listens network.new ≡ N.listens network.old }
-        ensures reassigns { Reassigns self.old.connections self.new.connections self.old.left self.new.left
-            (N.came network.old) (N.came network.new) }
+        ensures reassigns { Reassigns self.old.connections self.new.connections self.old.left
+            self.new.left (N.came network.old) (N.came network.new) }
         ensures ends { IsOkUnless result Listen }
     {
         for _ in 0..AT_ONCE {
@@ -405,7 +407,8 @@ impl<'a, R: Clock + System + Console, E: Ends> Server<'a, R, E> {
     /// Ends what takes too long, and looks waiting to be accepted again where there was no file for a caller.
     pub(crate) fn look_round<N: Network<E>>(&mut self, network: &mut N, now: u64)
         ensures listens { N.listens network.new ≡ N.listens network.old }
-        ensures late { EndsLate self.old.timers.items now self.old.connections self.new.connections }
+        ensures late { EndsLate self.old.timers.items now self.old.connections
+            self.new.connections }
         ensures clears { Clears self.old.connections self.new.connections }
         ensures left { self.new.left ≡ self.old.left }
         ensures came { N.came network.new ≡ N.came network.old }

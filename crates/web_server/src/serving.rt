@@ -12,8 +12,8 @@ ghost use Rattle.web_server.specs.Rounds.{AnswersCallers, Clears, Hosts, RoundsE
 
 use crate::clock::System;
 use crate::host::Host;
-use crate::server::Server;
 use crate::logged::NamesCaller;
+use crate::server::Server;
 use base_devices::{Device, Ticks};
 use base_values::Steps;
 use std::marker::Brand;
@@ -21,8 +21,8 @@ use std::sync::ledger::{Blank, Ledger};
 use std::time::{Clock, Instant};
 use web_cli::{Console, RunFault};
 use web_connection::{Handler, ReadBuffer};
-use web_sockets::{Ends, Network};
 use web_connections::Context;
+use web_sockets::{Ends, Network};
 
 /// How much is heard at most before a server looks round.
 const AT_ONCE: u32 = 256;
@@ -143,7 +143,11 @@ fn run_round<
         (N.came network.old) (N.came network.new) }
     ensures ends { IsOkUnless result Listen }
 {
-    let most = if server.can_accept(watch.now) { 0 } else { ROUND_MS };
+    let most = if server.can_accept(watch.now) {
+        0
+    } else {
+        ROUND_MS
+    };
     if network.wait(most).is_err() {
         return Err(RunFault::Listen);
     }

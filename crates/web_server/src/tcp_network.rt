@@ -2,8 +2,8 @@
 
 ghost use Rattle.std.specs.Prelude.{◌≡◌, None, IfOk};
 
-use crate::server::SLOTS;
 use crate::lingering::Lingerers;
+use crate::server::SLOTS;
 use base_devices::Refused;
 use mio::net::TcpListener;
 use mio::{Events, Interest, Poll, Registry, Token};

@@ -5,7 +5,7 @@ use base_devices::{Drain, Source, Ticks};
 use book_usage::Dues;
 use model_answers::Tables;
 use std::alloc::Global;
-use web_connection::{Handler, Failure, Room, run_stream};
+use web_connection::{Failure, Handler, Room, run_stream};
 use web_handler::{HttpWording, Office, ShopHandler};
 
 /// The tables of a shop that answered a case; how it ended, and what was written.

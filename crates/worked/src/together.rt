@@ -49,7 +49,14 @@ fn run_together<K: Handler>(
     let Ok((moments, _)) = moments(alloc, party.moments()) else {
         return Err(TogetherError::Unread);
     };
-    run_together_with::<Brand, K>(alloc, party, order, moments.as_slice(), handler, Blank::new(1))
+    run_together_with::<Brand, K>(
+        alloc,
+        party,
+        order,
+        moments.as_slice(),
+        handler,
+        Blank::new(1),
+    )
 }
 
 // What callers are told by the shop of an office, over the tables that were opened with it.

@@ -11,7 +11,7 @@ use std::alloc::{AllocError, Global};
 use std::io::Read;
 use std::marker::Brand;
 use std::sync::ledger::{Blank, Ledger};
-use web_cli::{HouseFiles, LineEnd, ServeOptions, Report, RunFault, counted, end_said, say};
+use web_cli::{HouseFiles, LineEnd, Report, RunFault, ServeOptions, counted, end_said, say};
 use web_http::write_all;
 
 /// What a command line came to.
