@@ -5,6 +5,6 @@ pub mod Found
 pub mod Overs
 pub mod Still
 pub mod Extensions
-pub mod RowCounts
+pub mod Standing
 pub mod HandedLemmas
 pub mod Reaches
