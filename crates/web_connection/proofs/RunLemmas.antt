@@ -256,15 +256,15 @@ module _ {D : Type 0} (Serves : D → Tick → Message → Answer → D → Type
     pieces = record { most = omega (arith, pieces.most, calls); some = omega (arith, pieces.some, calls) };
     streams = record { mid = cursor l new.reported new.handler new.taken; before = x; last = (stopped l [] new.reported new.reported new.handler new.taken (Adds-nil new.reported), none) };
   }
-  read_broken failures.Memory old new b l l' g turn input input' gives pieces x none calls (input, read, (some, most), same) counted = record {
-    bytes = b ++ input;
-    given = Gives-append old.left g new.left b input gives read;
+  read_broken failures.Memory old new b l l' g turn input input' gives pieces x none calls (came, read, (some, most), same) counted = record {
+    bytes = b ++ came;
+    given = Gives-append old.left g new.left b came gives read;
     pieces = record {
-      most = omega (arith, length-append b input, pieces.most, most, calls);
-      some = omega (arith, length-append b input, pieces.some, some, calls);
+      most = omega (arith, length-append b came, pieces.most, most, calls);
+      some = omega (arith, length-append b came, pieces.some, some, calls);
     };
-    streams = memory_broken _ (l ++ input) [] new.reported new.handler new.taken
-        (progress_feed b l input old.reported new.reported old.handler new.handler old.taken new.taken x) (l, input, refl, none, most);
+    streams = memory_broken _ (l ++ came) [] new.reported new.handler new.taken
+        (progress_feed b l came old.reported new.reported old.handler new.handler old.taken new.taken x) (l, came, refl, none, most);
   }
   read_broken failures.Output old new b l l' g turn input input' gives pieces x none calls read counted = absurd counted
   read_broken failures.Clock old new b l l' g turn input input' gives pieces x none calls read counted = absurd counted

@@ -72,16 +72,16 @@ loop-turn-preserved g c =
     let done = inv.done in
     let e = rw c.in-Ok-true.field-0-test at c.in-Ok-true.ensures in
     let read = rw c.in-Ok-true-take_in.field-0-test at c.in-Ok-true-take_in.ensures in
-    let input = read.leads.0 in
-    let fed = progress_feed S done.0 _ input _ _ _ _ _ _ (progress_more S _ _ _ done.2 e.leads.0) in
+    let came = read.leads.0 in
+    let fed = progress_feed S done.0 _ came _ _ _ _ _ _ (progress_more S _ _ _ done.2 e.leads.0) in
     record {
       done = (
-        done.0 ++ input,
+        done.0 ++ came,
         Gives-append _ _ _ _ _ done.1 read.leads.1,
-        subst (λ (l : List ℕ). Progress S (cursor (done.0 ++ input) (g.T.Ticks.reported c.args.ticks.now) c.args.handler.now (g.W.Drain.taken c.args.writer.now)) (cursor l (g.T.Ticks.reported c.answer_ready.new.ticks) c.answer_ready.new.handler (g.W.Drain.taken c.answer_ready.new.writer))) (sym read.leads.3) fed,
+        subst (λ (l : List ℕ). Progress S (cursor (done.0 ++ came) (g.T.Ticks.reported c.args.ticks.now) c.args.handler.now (g.W.Drain.taken c.args.writer.now)) (cursor l (g.T.Ticks.reported c.answer_ready.new.ticks) c.answer_ready.new.handler (g.W.Drain.taken c.answer_ready.new.writer))) (sym read.leads.3) fed,
         record {
-          most = omega (arith, length-append done.0 input, done.3.most, read.leads.2.1);
-          some = omega (arith, length-append done.0 input, done.3.some, read.leads.2.0);
+          most = omega (arith, length-append done.0 came, done.3.most, read.leads.2.1);
+          some = omega (arith, length-append done.0 came, done.3.some, read.leads.2.0);
         },
       );
       clock = e.counted.0 ∙ inv.clock;
