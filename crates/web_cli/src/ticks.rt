@@ -32,7 +32,7 @@ pub struct FeedTicks<P: Pace, M: Ledger> {
     pub from: Moment,
     /// The seconds from one tick to the next.
     pub step: u64,
-    /// How many were told.
+    /// How many were reported.
     pub reported: u64,
     /// How many calls failed: those after the last number of a `u64`.
     pub failures: Steps<M>,
