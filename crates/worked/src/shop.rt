@@ -5,7 +5,7 @@ use base_devices::{Drain, Source, Ticks};
 use book_usage::Dues;
 use model_answers::Tables;
 use std::alloc::Global;
-use web_connection::{Failure, Handler, Room, run_stream};
+use web_connection::{Buffers, Failure, Handler, run_stream};
 use web_handler::{HttpWording, Office, ShopHandler};
 
 /// The tables of a shop that answered a case; how it ended, and what was written.
@@ -27,10 +27,10 @@ impl<K: Handler> Answers for AtHandler<'_, K> {
         ticks: &mut T,
         writer: &mut W,
     ) -> Result<(), Failure> {
-        let Ok(mut room) = Room::new(alloc) else {
+        let Ok(mut buffers) = Buffers::new(alloc) else {
             return Err(Failure::Memory);
         };
-        run_stream(alloc, &mut room, reader, ticks, self.handler, writer)
+        run_stream(alloc, &mut buffers, reader, ticks, self.handler, writer)
     }
 }
 
