@@ -3,3 +3,4 @@ pub mod Hosted
 pub mod GivingWay
 pub mod Timeouts
 pub mod Rounds
+pub mod Waiting

@@ -1,5 +1,5 @@
 -- How long a caller may take, in milliseconds, and who is counted as between two requests or within one.
-use Rattle.std.specs.Prelude.{◌≡◌, ◌+◌, ◌-◌, ◌^◌, ◌<◌, ◌||◌, ℕ, Bool, true, false, min, nat_le, List, Option, Some, None, unwrap_or, slice_get, slice_set, if◌then◌else◌}
+use Rattle.std.specs.Prelude.{◌≡◌, ◌+◌, ◌-◌, ◌^◌, ◌<◌, ◌||◌, ◌⊎◌, ℕ, Bool, true, false, min, nat_le, List, Option, Some, None, unwrap_or, slice_get, slice_set, if◌then◌else◌}
 use Rattle.web_connections.specs.declared.phase.Needs.{Needs}
 use Rattle.web_connections.specs.declared.phase.Needs.TheVariants as needs
 use Rattle.web_connections.specs.Connections.{Caller, Callers, at_slot, slot_needs}
@@ -60,9 +60,18 @@ abbrev pub unsent_after : Bool → Option ℕ → ℕ → Option ℕ
 unsent_after true unsent now = Some (unwrap_or unsent now)
 unsent_after false unsent now = None
 
--- since when a caller waits behind a turn
+-- The timer of a caller that came at that moment: it is within its first request from then on.
+abbrev pub timer_begun : ℕ → Timer
+timer_begun now = record { came = now; waits = now; began = Some now; unsent = None }
+
+-- since when a caller waits behind a turn; when it came stays
 abbrev pub timer_after : Timer → Needs → Needs → Bool → ℕ → Timer
-timer_after timer before after unsent now = record { waits = now; began = began_after before after timer.began now; unsent = unsent_after unsent timer.unsent now }
+timer_after timer before after unsent now = record { came = timer.came; waits = now; began = began_after before after timer.began now; unsent = unsent_after unsent timer.unsent now }
+
+-- Whoever comes to a slot came now, and has waited since then, and all others keep their timers; or nobody comes, and nothing changes.
+abbrev pub Begins : ℕ → ℕ → List Timer → List Timer → Callers → Callers → Type 0
+Begins slot now timer timer' old new =
+    ((new.came ≡ old.came) × (timer' ≡ timer)) ⊎ ((new.came ≡ old.came + 1) × (timer' ≡ slice_set timer slot (timer_begun now)))
 
 -- since when callers wait, with what is so of the caller at a slot behind its turn; where its conversation is over nothing is kept
 abbrev pub timers_after : ℕ → Option Timer → Needs → Needs → Bool → ℕ → List Timer → List Timer

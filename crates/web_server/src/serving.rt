@@ -1,6 +1,6 @@
 //! Many connections at once, in one thread.
 
-ghost use Rattle.std.specs.Prelude.{◌≡◌, ◌-◌, None, false, true, nat_le, IsOkUnless};
+ghost use Rattle.std.specs.Prelude.{◌≡◌, ◌-◌, ◌≤◌, None, false, true, nat_le, IsOkUnless};
 ghost use Rattle.base_devices.specs.Blanks.{IsBlankOf};
 ghost use Rattle.web_connection.specs.Run.{AtTick};
 ghost use Rattle.web_cli.specs.declared.fault.RunFault.TheVariants.{Listen};
@@ -40,20 +40,23 @@ struct Watch<'a, C> {
 }
 
 impl<C: Clock> Watch<'_, C> {
-    // The moment now, or the last one where the clock can't be read.
+    // The moment now, or the last one where the clock can't be read, or went back.
     fn look(&mut self) -> u64
         ensures now { result ≡ self.new.now }
         ensures looked { self.new.looked ≡ self.old.looked }
+        ensures on { self.old.now ≤ self.new.now }
     {
         if let Ok(since) = self.start.elapsed(self.clock) {
             let seconds = since.as_secs().saturating_mul(1000);
-            self.now = seconds.saturating_add(since.subsec_millis() as u64);
+            let now = seconds.saturating_add(since.subsec_millis() as u64);
+            self.now = self.now.max(now);
         }
         self.now
     }
 
     // Whether a round is over since it was asked last.
     fn is_due(&mut self) -> bool
+        ensures now { self.new.now ≡ self.old.now }
         ensures due { result ≡ nat_le 250 (self.old.now - self.old.looked) }
         ensures begins { result ≡ true → self.new.looked ≡ self.old.now }
         ensures goes_on { result ≡ false → self.new.looked ≡ self.old.looked }
@@ -91,6 +94,7 @@ fn look_if_due<R: Clock + System + Console, E: Ends, N: Network<E>>(
     ensures clears { Clears server.old.connections server.new.connections }
     ensures left { server.new.left ≡ server.old.left }
     ensures came { N.came network.new ≡ N.came network.old }
+    ensures now { watch.new.now ≡ watch.old.now }
 {
     if watch.is_due() {
         server.look_round(network, now);

@@ -114,6 +114,19 @@ impl<'a, R: Net<Listener = std::net::TcpListener, Stream = std::net::TcpStream>>
         }
     }
 
+    fn listen_again(&mut self) -> Result<(), Refused> {
+        let Some(listener) = &mut self.listener else {
+            return Ok(());
+        };
+        match self
+            .registry
+            .reregister(listener, LISTENER, Interest::READABLE)
+        {
+            Ok(()) => Ok(()),
+            Err(_) => Err(Refused),
+        }
+    }
+
     fn accept_next(&mut self) -> Result<Accepted<Peer<Tcp<'a>>>, Refused> {
         let Some(listener) = &self.listener else {
             return Ok(Accepted::Nobody);

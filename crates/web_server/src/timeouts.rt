@@ -1,8 +1,8 @@
 //! How long a server waits for a caller.
 
 ghost use Rattle.std.specs.Prelude.{◌≡◌, ◌&&◌, ◌||◌, None, Some, nat_lt, IfSome};
-ghost use Rattle.web_server.specs.GivingWay.{MayGo, beyond, readiness_of};
-ghost use Rattle.web_server.specs.Timeouts.{load_with, is_up, sends_too_long, timer_after};
+ghost use Rattle.web_server.specs.GivingWay.{MayGo, beyond, begins_no_more, is_owed_nothing, lent, or_lent, readiness_in_group, readiness_of};
+ghost use Rattle.web_server.specs.Timeouts.{load_with, is_up, sends_too_long, timer_after, timer_begun};
 
 use web_connections::Needs;
 
@@ -24,8 +24,14 @@ const GRACE_MS: u64 = 1_000;
 /// How long the next request has to come at least where another caller wants the slot.
 const PAUSE_MS: u64 = 250;
 
+/// How long a slot is its caller's own. Beyond that it is lent.
+const LENT_AFTER_MS: u64 = 1_000;
+
 /// By how much whoever is between two requests is readier to go than whoever is within one.
 const IDLE_FIRST: u64 = 1 << 63;
+
+/// By how much whoever is within a request beyond its grace is readier to go than whoever has a slot that is only lent.
+const WITHIN_FIRST: u64 = 1 << 62;
 
 /// How many callers are between two requests, and how many within one.
 #[derive(Clone, Copy, Drop, PartialEq, Eq)]
@@ -76,9 +82,11 @@ impl Load {
     }
 }
 
-/// Since when a caller waits for what it waits for, and since when its request is on its way. In milliseconds, as all moments here.
+/// When a caller came, since when it waits for what it waits for, since when its request is on its way, and since when it has bytes unsent. In
+/// milliseconds, as all moments here.
 #[derive(Clone, Copy, Drop, PartialEq, Eq)]
 pub(crate) struct Timer {
+    came: u64,
     waits: u64,
     began: Option<u64>,
     unsent: Option<u64>,
@@ -88,9 +96,10 @@ impl Timer {
     /// A caller that came at that moment. It is within its first request from then on, also where it sent nothing yet: else callers that send nothing
     /// would take the slots of those who pause between two requests.
     pub(crate) fn new(now: u64) -> Timer
-        ensures { result ≡ record { waits = now; began = Some now; unsent = None } }
+        ensures { result ≡ timer_begun now }
     {
         Timer {
+            came: now,
             waits: now,
             began: Some(now),
             unsent: None,
@@ -110,6 +119,7 @@ impl Timer {
             false => None,
         };
         Timer {
+            came: self.came,
             waits: now,
             began,
             unsent,
@@ -139,23 +149,74 @@ impl Timer {
         }
     }
 
-    /// How readily its slot is given to another caller, none where it isn't, as within a grace. The one to go is of the greater group: where more
-    /// callers are within a request than between two, nobody goes who is between two, and whose request began first goes first; else whoever has
-    /// waited longest between two goes first, and after these whoever is within one. Whoever has an answer underway goes only where all have.
-    pub(crate) fn readiness(self, needs: Needs, load: Load, now: u64) -> Option<u64>
-        ensures readiness { result ≡ readiness_of self needs load now }
-        ensures may_go { IfSome result
-            (λ readiness. MayGo load self needs) }
+    // How readily its slot is given to another caller as one of a group, none where it isn't, as within a grace. The one to go is of the greater group:
+    // where more callers are within a request than between two, nobody goes who is between two, and whose request began first goes first; else whoever
+    // has waited longest between two goes first, and after these whoever is within one. Whoever has bytes unsent goes only where that group is greatest.
+    fn readiness_in_group(self, needs: Needs, load: Load, now: u64) -> Option<u64>
+        ensures { result ≡ readiness_in_group self needs load now }
     {
         let waited = now.saturating_sub(self.waits);
         match (needs, self.began, self.unsent) {
             (Needs::Bytes, None, _) if !load.is_busy() => beyond(PAUSE_MS, IDLE_FIRST, waited),
-            (Needs::Bytes, Some(began), _) => beyond(GRACE_MS, 0, now.saturating_sub(began)),
+            (Needs::Bytes, Some(began), _) => {
+                beyond(GRACE_MS, WITHIN_FIRST, now.saturating_sub(began))
+            }
             (Needs::Room, _, Some(unsent)) if load.is_unsent() => {
                 beyond(GRACE_MS, IDLE_FIRST, now.saturating_sub(unsent))
             }
             _ => None,
         }
+    }
+
+    // Whether nothing of its answers is unsent, or it has had bytes unsent for a second.
+    fn is_owed_nothing(self, now: u64) -> bool
+        ensures { result ≡ is_owed_nothing self.unsent now }
+    {
+        match self.unsent {
+            Some(unsent) => now.saturating_sub(unsent) >= GRACE_MS,
+            None => true,
+        }
+    }
+
+    // How readily a slot that is only lent is given to another caller: whoever came first goes first.
+    fn lent(self, now: u64) -> Option<u64>
+        ensures { result ≡ lent self now }
+    {
+        let long = now.saturating_sub(self.came);
+        if long >= LENT_AFTER_MS && self.is_owed_nothing(now) {
+            Some(long.min(WITHIN_FIRST - 1))
+        } else {
+            None
+        }
+    }
+
+    /// How readily its slot is given to another caller: as one of a group, or else as one that is only lent.
+    pub(crate) fn readiness(self, needs: Needs, load: Load, now: u64) -> Option<u64>
+        ensures readiness { result ≡ readiness_of self needs load now }
+        ensures may_go { IfSome result
+            (λ readiness. MayGo load self needs now) }
+    {
+        if needs == Needs::Nothing {
+            return None;
+        }
+        or_lent(self.readiness_in_group(needs, load, now), self.lent(now))
+    }
+
+    /// Whether it begins no further message while one more waits: its slot is only lent, and nothing of its answers is unsent.
+    pub(crate) fn begins_no_more(self, now: u64) -> bool
+        ensures { result ≡ begins_no_more self now }
+    {
+        self.unsent.is_none() && now.saturating_sub(self.came) >= LENT_AFTER_MS
+    }
+}
+
+// How readily one goes: as one of a group, or else as one whose slot is lent.
+fn or_lent(grouped: Option<u64>, lent: Option<u64>) -> Option<u64>
+    ensures { result ≡ or_lent grouped lent }
+{
+    match grouped {
+        Some(readiness) => Some(readiness),
+        None => lent,
     }
 }
 

@@ -46,6 +46,11 @@ pub trait Network<E: Ends> {
         ensures listens { OnOk result (listens self.new ≡ Some addr) }
         ensures came { came self.new ≡ came self.old };
 
+    /// Has the listener be heard again if somebody waits to be accepted, also where it was heard of that one before.
+    fn listen_again(&mut self) -> Result<(), Refused>
+        ensures listens { listens self.new ≡ listens self.old }
+        ensures came { came self.new ≡ came self.old };
+
     /// The next who is waiting to be accepted.
     fn accept_next(&mut self) -> Result<Accepted<E>, Refused>
         ensures listens { listens self.new ≡ listens self.old }

@@ -1,25 +1,12 @@
 use Rattle.std.proofs.Common.{arith, refl}
 use Rattle.web_connection.specs.Run.{AtTick}
-use Rattle.web_connections.specs.Contexts.{between_at}
-use Rattle.web_server.proofs.RoundLemmas.{clears_leaves, hosts_more, hosts_none, hosts_of, hosts_turn, reassigns_clears}
+use Rattle.web_server.proofs.RoundLemmas.{hosts_none, hosts_of, reassigns_clears}
 use Rattle.web_server.proofs.server.Server.turn.Goals as goal
 
 pub returns-then-eq-clause-hosts : goal.returns-then-eq-clause-hosts
 returns-then-eq-clause-hosts g c = hosts_none (AtTick g.T.Ticks.reads g.D.Handler.serves) _ _ _ _ _ _ _ _ refl refl refl refl
 
-pub returns-in-Ok-clause-hosts : goal.returns-in-Ok-clause-hosts
-returns-in-Ok-clause-hosts g c =
-    let S = AtTick g.T.Ticks.reads g.D.Handler.serves in
-    let from = between_at g.T.Ticks c.args.context.now in
-    let to = between_at g.T.Ticks c.turn.new.context in
-    let note = c.note.ensures in
-    hosts_more S from to to _ _ _ _ _ _ _ _ _ (hosts_turn S from to _ _ _ c.args.slot _ (rw (c.name_caller.ensures) at c.turn.ensures.turn))
-    (hosts_of S to to _ _ _ _ _ _ refl (reassigns_clears _ _ _ _ _ _ note.clears (omega (arith, note.left)) note.came))
-
-pub returns-in-Err-clause-hosts : goal.returns-in-Err-clause-hosts
-returns-in-Err-clause-hosts g c =
-    let S = AtTick g.T.Ticks.reads g.D.Handler.serves in
-    let from = between_at g.T.Ticks c.args.context.now in
-    let to = between_at g.T.Ticks c.turn.new.context in
-    hosts_more S from to to _ _ _ _ _ _ _ _ _ (hosts_turn S from to _ _ _ c.args.slot _ (rw (c.name_caller.ensures) at c.turn.ensures.turn))
-    (hosts_of S to to _ _ _ _ _ _ refl (reassigns_clears _ _ _ _ _ _ (clears_leaves _ _ c.args.slot c.leave.ensures.free) (omega arith) refl))
+pub returns-then-gives_way-clause-hosts : goal.returns-then-gives_way-clause-hosts
+returns-then-gives_way-clause-hosts g c =
+    let close = c.close.ensures in
+    hosts_of (AtTick g.T.Ticks.reads g.D.Handler.serves) _ _ _ _ _ _ _ _ refl (reassigns_clears _ _ _ _ _ _ close.clears (omega (arith, close.left)) close.came)

@@ -1,6 +1,6 @@
 use Rattle.std.proofs.Common.{arith, refl, ◌∙◌}
 use Rattle.web_server.proofs.RoundLemmas.{clears_none, reassigns_clears, reassigns_more}
-use Rattle.web_server.proofs.server.Server.accept.Goals as goal
+use Rattle.web_server.proofs.server.Server.accept_all.Goals as goal
 
 pub loop-init : goal.loop-init
 loop-init g c = (reassigns_clears _ _ _ _ _ _ (clears_none _ _ refl) (omega arith) refl, refl)
