@@ -168,29 +168,7 @@ class Slow(Pipes):
             pass
 
 
-class Pages(Silent):
-    """A request for a page of items, of which each piece is taken at once; the next request comes behind it."""
-
-    def begins(self):
-        self.sends(request("/items/"))
-
-    def hears(self, ended):
-        for _ in range(ended):
-            self.begins()
-
-
-class SlowPages(Pages):
-    """A page of items, of which 64 KiB are taken each time, from a room that is small."""
-    PIECE, ROOM, BY_STEPS = 1 << 16, 1 << 16, True
-
-    def steps(self):
-        try:
-            self.takes()
-        except BlockingIOError:
-            pass
-
-
-KINDS = {it.__name__.lower(): it for it in (Silent, Drips, Asks, Pipes, Slow, Pages, SlowPages)}
+KINDS = {it.__name__.lower(): it for it in (Silent, Drips, Asks, Pipes, Slow)}
 
 
 class Crowd:
